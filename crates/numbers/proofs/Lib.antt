@@ -1,0 +1,29 @@
+-- The laws of whole numbers: which one to reach for when.
+--
+-- A fact that is linear in its integers (sums, differences, multiples by a literal, ≤ℤ, <ℤ, ≡, natAbs x ≤ n): no law. State it over all integers and let
+-- `Differences` carry it to `omega`:  rep₂ _ (λ a b c d. simp lin (omega arith)).  It is the one bridge to `omega`. A product with a natural is linear
+-- too, `pos n *ℤ x`; where an order has to be multiplied, hand `omega` the product: omega (arith, mul-le-mul-right n h).
+--
+-- An identity of polynomials: `Solver`, one line:  all₃ _ (λ ρ. simp (quote, q-con ρ) (ring ρ _ _ tt)).
+--
+-- One rewriting by associativity or distributivity: `Ring`.
+--
+-- Transitivity, a product's or a sum's order or size: `Order` (≤-trans, ≤-antisym, ≤-total, *-mono, *-cancel; size-+ and size-* for |x + y| and |x·y|
+-- by the sizes of x and y; sq→abs and abs→sq between x² ≤ m² and |x| ≤ m).
+--
+-- A rounding: `Rounding`. A number is the floor of x / d, or the nearest to z / d, as soon as it has the two bounds of `Floored` or `Near`: `floor-is`,
+-- `nearest-is`. Order: `floor-order`, `nearest-order`. A multiple of the divisor comes out: `floor-plus`, `nearest-plus`. A fraction is reduced:
+-- `nearest-reduced`. At most a half off: `within-half`. An exact half: `nearest-half`.
+--
+-- An `i64` of the code: `Machine` (that a number fits, what a test leaves, >> as a floor). The bits of a number that fits read back as it by the kit's
+-- `mir.ValLaws.toZ-ofZ`.
+--
+-- The Chebyshev polynomials of the granule rule: `Chebyshev` for their recurrence and size (E-bound, W-bound), `Slope` for how far E_k moves when p does.
+pub mod Differences
+pub mod Ring
+pub mod Order
+pub mod Rounding
+pub mod Machine
+pub mod Solver
+pub mod Chebyshev
+pub mod Slope
