@@ -1,0 +1,34 @@
+//! The comparison of writing a tick as a date.
+
+use super::interface::{Date, Desk};
+use super::ledger::Ledger;
+use super::stage::Stage;
+use crate::dates;
+use crate::generate::{Random, edge_ticks, random_tick};
+
+pub fn write_date(desk: &Desk, stage: &Stage) -> Option<Ledger> {
+    let write_date = desk.write_date?;
+    let mut random = Random::new(stage.seed ^ 0xda7e);
+    let mut ledger = Ledger::default();
+    let mut ticks = edge_ticks();
+    ticks.extend(day_ends(&mut random));
+    let many = stage.size.tables * stage.size.conversions;
+    ticks.extend((0..many).map(|_| random_tick(&mut random)));
+    for tick in ticks {
+        let expected = Date::from(dates::write_date(tick));
+        ledger.count(expected.number);
+        let got = unsafe { write_date(tick) };
+        ledger.same(got, expected, || format!("tick {tick}"));
+    }
+    Some(ledger)
+}
+
+/// Ticks on both sides of a Julian date ending in .5.
+fn day_ends(random: &mut Random) -> Vec<i64> {
+    let first = -32_184_000_000;
+    let day = dates::DAY as i64;
+    (0..200)
+        .map(|_| first + random.between(-69_000, 69_000) * day)
+        .flat_map(|end| [end - 1, end, end + 1])
+        .collect()
+}

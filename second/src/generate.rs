@@ -1,0 +1,16 @@
+//! Generators with a fixed seed: the inputs that second and any other program
+//! are compared on. The same seed always gives the same inputs.
+
+mod broken;
+mod doubles;
+mod lines;
+mod random;
+mod tables;
+mod ticks;
+
+pub use broken::{Broken, broken_tables, doubly_broken_table};
+pub use doubles::{date_pairs, edge_days, edge_seconds, seconds_past_j2000};
+pub use lines::{hostile_line, input, plain_line};
+pub use random::Random;
+pub use tables::{Shape, accepted_table, accepted_tables};
+pub use ticks::{edge_ticks, random_tick, table_ticks};
