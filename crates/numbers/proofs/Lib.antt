@@ -13,12 +13,14 @@
 --
 -- A rounding: `Rounding`. A number is the floor of x / d, or the nearest to z / d, as soon as it has the two bounds of `Floored` or `Near`: `floor-is`,
 -- `nearest-is`. Order: `floor-order`, `nearest-order`. A multiple of the divisor comes out: `floor-plus`, `nearest-plus`. A fraction is reduced:
--- `nearest-reduced`. At most a half off: `within-half`. An exact half: `nearest-half`.
+-- `nearest-reduced`. At most a half off: `within-half`. An exact half: `nearest-half`. Sizes: `floor-small`, `nearest-small`. What moves by at most a divisor
+-- is rounded to at most one apart: `nearest-moves`. For kernels: `nearest-twice` (a half by two shifts), `nearest-split` (a product split at the divisor).
 --
--- An `i64` of the code: `Machine` (that a number fits, what a test leaves, >> as a floor). The bits of a number that fits read back as it by the kit's
--- `mir.ValLaws.toZ-ofZ`.
+-- An `i64` of the code: `Machine` (that a number fits, what a test leaves, tests that say the same, >> as a floor). The bits of a number that fits read back
+-- as it: `read-is`.
 --
--- The Chebyshev polynomials of the granule rule: `Chebyshev` for their recurrence and size (E-bound, W-bound), `Slope` for how far E_k moves when p does.
+-- The Chebyshev polynomials of the granule rule: `Chebyshev` for their recurrence, size (E-bound, W-bound), ends (E-start, E-end) and other denominators
+-- (E-scale), `Slope` for how far E_k moves when p does.
 pub mod Differences
 pub mod Ring
 pub mod Order

@@ -1,15 +1,18 @@
--- What an `i64` of the code says of integers: that a number fits, what a test of two of them leaves, and that >> is a floor.
--- (That a number which fits is read back from its bits is the kit's own `mir.ValLaws.toZ-ofZ`.) Assumes nothing.
+-- What an `i64` of the code says of integers: that a number fits and reads back from its bits, what a test of two of them leaves, tests that say the same,
+-- and that >> is a floor. Assumes nothing.
 use mathlib.Core.Path.{_≡_, refl, sym, subst}
-use mathlib.Core.Bool.{Bool, true, false, not}
-use Prim.Native.Nat.{ℕ, _^_, _<_}
+use mathlib.Core.Bool.{Bool, true, false, not, _&&_}
+use Prim.Native.Nat.{ℕ, _^_, _<_, _≤_}
 use native.Mathlib.Omega.{arith}
-use lib.Dec.{T}
-use lib.IntN.{ℤ, pos, negsuc, natAbs}
+use lib.Dec.{T, leb, leb→le, le→leb, lt→ltb, ltb→lt}
+use lib.IntN.{ℤ, pos, negsuc, natAbs, negℤ}
 use lib.Signed.{_≤ℤ_, _<ℤ_, leZ, ltZ, ltZ-no, shrZ}
 use mir.Syntax.{w64}
-use mir.Val.{SFits}
+use mir.Val.{SFits, toZ, ofZ}
 use Rattle.numbers.specs.Rounding.{floorDiv}
+use mir.ValLaws.{toZ-ofZ}
+use mir.Facts.{and-yes, yes-and}
+use Rattle.numbers.proofs.Differences.{rep, lin}
 
 -- a number below 2^63 either way fits
 pub fits : (z : ℤ) → natAbs z < 2 ^ 63 → SFits w64 z
@@ -39,3 +42,51 @@ pub shr-floor : (z : ℤ) (d : ℕ) → shrZ z d ≡ floorDiv z d
 unfolding floorDiv
 shr-floor (pos n) d = refl
 shr-floor (negsuc n) d = refl
+
+-- ---- the bits of a number, read back
+abbrev pub read : ℤ → ℤ
+read z = toZ w64 (ofZ w64 z)
+
+pub read-is : (z : ℤ) → SFits w64 z → read z ≡ z
+read-is z f = toZ-ofZ w64 z f
+
+pub fits-size : (z : ℤ) → SFits w64 z → natAbs z ≤ 2 ^ 63
+fits-size (pos n) f = let h = f .sfits in omega arith
+fits-size (negsuc n) f = let h = f .sfits in omega arith
+
+pub fits-small : (z : ℤ) (m : ℕ) → natAbs z ≤ m → m < 2 ^ 63 → SFits w64 z
+fits-small z m s k = fits z (omega arith)
+
+-- what fits lies from −2^63 to below 2^63, and back
+pub fits-under : (z : ℤ) → SFits w64 z → z <ℤ pos (2 ^ 63)
+fits-under (pos n) f = record { lt = lt→ltb n (2 ^ 63) (f .sfits) }
+fits-under (negsuc n) f = record { lt = tt }
+
+pub fits-range : (z : ℤ) → negsuc 9223372036854775807 ≤ℤ z → z <ℤ pos (2 ^ 63) → SFits w64 z
+fits-range (pos n) l g = record { sfits = ltb→lt n (2 ^ 63) (g .lt) }
+fits-range (negsuc n) l g = let h = leb→le n 9223372036854775807 (l .le) in record { sfits = omega arith }
+
+-- ---- two tests that hold together are one
+pub same-test : (a b : Bool) → (T a → T b) → (T b → T a) → a ≡ b
+same-test true true f g = refl
+same-test true false f g = absurd (f tt)
+same-test false true f g = absurd (g tt)
+same-test false false f g = refl
+
+pub same-le : (x y z w : ℤ) → (x ≤ℤ y → z ≤ℤ w) → (z ≤ℤ w → x ≤ℤ y) → leZ x y ≡ leZ z w
+same-le x y z w f g = same-test (leZ x y) (leZ z w) (λ t. f (record { le = t }) .le) (λ t. g (record { le = t }) .le)
+
+-- a bound of a size is two tests
+size-low : (n : ℕ) (z : ℤ) → natAbs z ≤ n → negℤ (pos n) ≤ℤ z
+size-low n = rep _ (λ a b. simp lin (omega arith))
+
+size-high : (n : ℕ) (z : ℤ) → natAbs z ≤ n → z ≤ℤ pos n
+size-high n = rep _ (λ a b. simp lin (omega arith))
+
+size-both : (n : ℕ) (z : ℤ) → negℤ (pos n) ≤ℤ z → z ≤ℤ pos n → natAbs z ≤ n
+size-both n = rep _ (λ a b. simp lin (omega arith))
+
+pub size-test : (n : ℕ) (z : ℤ) → (leZ (negℤ (pos n)) z && leZ z (pos n)) ≡ leb (natAbs z) n
+size-test n z = same-test (leZ (negℤ (pos n)) z && leZ z (pos n)) (leb (natAbs z) n)
+    (λ t. let b = and-yes (leZ (negℤ (pos n)) z) (leZ z (pos n)) t in le→leb (natAbs z) n (size-both n z (record { le = b .0 }) (record { le = b .1 })))
+    (λ t. let h = leb→le (natAbs z) n t in yes-and (leZ (negℤ (pos n)) z) (leZ z (pos n)) (size-low n z h .le) (size-high n z h .le))

@@ -1,16 +1,17 @@
 -- Floor division and nearest: the two bounds that determine each, and what follows from them. A kernel's proof shows the bounds of the number
 -- that it computes and ends by `floor-is` or `nearest-is`; nothing above this file opens the two definitions. Assumes nothing.
-use mathlib.Core.Path.{_≡_}
+use mathlib.Core.Path.{_≡_, sym}
 use mathlib.Core.Logic.{⊎-elim}
 use Prim.Native.Nat.{ℕ, _+_, _*_, _/_, _≤_, _<_}
-use native.Mathlib.Nat.{div-add-mod', mod-lt, mul-comm, mul-suc, mul-le-mul-right}
+use native.Mathlib.Nat.{div-add-mod', mod-lt, mul-comm, mul-suc, mul-le-mul-right, mul-le-mul-left, le-of-mul-le-mul-left, lt-of-mul-lt-mul-left}
 use native.Mathlib.Omega.{arith}
 use lib.IntN.{ℤ, pos, negsuc, _+ℤ_, _-ℤ_, _*ℤ_, natAbs}
 use lib.Signed.{_≤ℤ_, _<ℤ_, ≤ℤ-refl}
 use Rattle.numbers.specs.Rounding.{floorDiv, nearest}
-use Rattle.numbers.proofs.Differences.{rep₂, rep₃, rep₄, lin}
+use Rattle.numbers.proofs.Differences.{rep₂, rep₃, rep₄, lin, sizes}
 use Rattle.numbers.proofs.Ring.{*-assoc}
-use Rattle.numbers.proofs.Order.{≤-antisym, ≤-total}
+use Rattle.numbers.proofs.Order.{≤-antisym, ≤-total, abs-*}
+use lib.Dec.{lit<}
 
 -- ---- floor: d·q ≤ x < d·q + d
 pub record Floored (x : ℤ) (d : ℕ) (q : ℤ) : Type 0 where
@@ -125,3 +126,76 @@ nearest-reduced z d g h k =
 
     high : (z q : ℤ) → (pos 2 *ℤ z +ℤ pos d) <ℤ (pos 2 *ℤ (pos d *ℤ q) +ℤ pos 2 *ℤ pos d) → (pos 2 *ℤ (pos g *ℤ z) +ℤ pos (g * d)) <ℤ (pos 2 *ℤ (pos (g * d) *ℤ q) +ℤ pos 2 *ℤ pos (g * d))
     high = rep₂ _ (λ a b c e. simp lin (λ h. omega (arith, mul-le-mul-right g h)))
+
+-- ---- numbers at most a divisor apart are rounded to numbers at most one apart
+one-up : (d : ℕ) (x y : ℤ) → natAbs (x -ℤ y) ≤ d → (y ≤ℤ (x +ℤ pos d *ℤ pos 1)) × (x ≤ℤ (y +ℤ pos d *ℤ pos 1))
+one-up d x y h = (up x y h, down x y h)
+  where
+    up : (x y : ℤ) → natAbs (x -ℤ y) ≤ d → y ≤ℤ (x +ℤ pos d *ℤ pos 1)
+    up = rep₂ _ (λ a b c e. simp lin (omega arith))
+
+    down : (x y : ℤ) → natAbs (x -ℤ y) ≤ d → x ≤ℤ (y +ℤ pos d *ℤ pos 1)
+    down = rep₂ _ (λ a b c e. simp lin (omega arith))
+
+one-apart : (q r : ℤ) → r ≤ℤ (q +ℤ pos 1) → q ≤ℤ (r +ℤ pos 1) → natAbs (q -ℤ r) ≤ 1
+one-apart = rep₂ _ (λ a b c e. simp lin (omega arith))
+
+pub nearest-moves : (x y : ℤ) (d : ℕ) → 0 < d → natAbs (x -ℤ y) ≤ d → natAbs (nearest x d -ℤ nearest y d) ≤ 1
+nearest-moves x y d h k =
+    let o = one-up d x y k in
+    one-apart (nearest x d) (nearest y d)
+    (rw (nearest-plus x (pos 1) d h) at (nearest-order y (x +ℤ pos d *ℤ pos 1) d h (o .0)))
+    (rw (nearest-plus y (pos 1) d h) at (nearest-order x (y +ℤ pos d *ℤ pos 1) d h (o .1)))
+
+-- ---- sizes
+from : (d n : ℕ) (x y : ℤ) → natAbs (pos 2 *ℤ (x -ℤ y)) ≤ d → natAbs y ≤ n → 2 * natAbs x ≤ d + 2 * n
+from d n = rep₂ _ (λ a b c e. simp sizes (omega arith))
+
+half : (d m q : ℕ) → 0 < d → 2 * (d * q) ≤ d + 2 * (d * m) → q ≤ m
+half d m q h k = let l : 2 * q ≤ 1 + 2 * m = le-of-mul-le-mul-left {k = d} (omega arith) h in omega arith
+
+-- a number of at most m divisors is rounded to at most m
+pub nearest-small : (z : ℤ) (d m : ℕ) → 0 < d → natAbs z ≤ d * m → natAbs (nearest z d) ≤ m
+nearest-small z d m h k =
+    let q = nearest z d in
+    half d m (natAbs q) h (omega (arith, from d (d * m) (pos d *ℤ q) z (within-half z d h) k, abs-* (pos d) q))
+
+pub floor-small : (x : ℤ) (d m : ℕ) → 0 < d → natAbs x ≤ d * m → natAbs (floorDiv x d) ≤ m
+unfolding floorDiv
+floor-small (pos n) d m h k = le-of-mul-le-mul-left {k = d} (omega (arith, div-add-mod' n d, mul-comm d (n / d))) h
+floor-small (negsuc n) d m h k =
+    let l : n / d < m = lt-of-mul-lt-mul-left d (omega (arith, div-add-mod' n d, mul-comm d (n / d))) in omega arith
+
+-- ---- half a divisor by two floors: nearest z (2·d) is (⌊z / d⌋ + 1) / 2, rounded down
+doubled-under : (d : ℕ) (x f q : ℤ) → (pos 2 *ℤ q) ≤ℤ (f +ℤ pos 1) → (pos d *ℤ f) ≤ℤ x → (pos 2 *ℤ (pos (2 * d) *ℤ q)) ≤ℤ (pos 2 *ℤ x +ℤ pos (2 * d))
+doubled-under d = rep₃ _ (λ a b c e g i. simp lin (λ h k. omega (arith, mul-le-mul-left d h)))
+
+doubled-above : (d : ℕ) (x f q : ℤ) → (f +ℤ pos 1) <ℤ (pos 2 *ℤ q +ℤ pos 2) → x <ℤ (pos d *ℤ f +ℤ pos d) → (pos 2 *ℤ x +ℤ pos (2 * d)) <ℤ (pos 2 *ℤ (pos (2 * d) *ℤ q) +ℤ pos 2 *ℤ pos (2 * d))
+doubled-above d = rep₃ _ (λ a b c e g i. simp lin (λ h k. omega (arith, mul-le-mul-left d h)))
+
+pub nearest-twice : (z : ℤ) (d : ℕ) → 0 < d → nearest z (2 * d) ≡ floorDiv (floorDiv z d +ℤ pos 1) 2
+nearest-twice z d h =
+    let f = floorDiv z d in
+    let q = floorDiv (f +ℤ pos 1) 2 in
+    let i = floored z d h in
+    let o = floored (f +ℤ pos 1) 2 (lit< tt) in
+    nearest-is z q (2 * d) (omega arith) (record { under = doubled-under d z f q (o .under) (i .under); above = doubled-above d z f q (o .above) (i .above) })
+
+-- ---- a product u·b with b split at d = 2·half: where b = d·h + l, it is u·h + ⌊(u·l + half) / d⌋
+split-under : (half : ℕ) (ul q uh : ℤ) → (pos (2 * half) *ℤ q) ≤ℤ (ul +ℤ pos half) → (pos 2 *ℤ (pos (2 * half) *ℤ (uh +ℤ q))) ≤ℤ (pos 2 *ℤ (pos (2 * half) *ℤ uh +ℤ ul) +ℤ pos (2 * half))
+split-under half = rep₃ _ (λ a b c d e f. simp lin (omega arith))
+
+split-above : (half : ℕ) (ul q uh : ℤ) → (ul +ℤ pos half) <ℤ (pos (2 * half) *ℤ q +ℤ pos (2 * half))
+    → (pos 2 *ℤ (pos (2 * half) *ℤ uh +ℤ ul) +ℤ pos (2 * half)) <ℤ (pos 2 *ℤ (pos (2 * half) *ℤ (uh +ℤ q)) +ℤ pos 2 *ℤ pos (2 * half))
+split-above half = rep₃ _ (λ a b c d e f. simp lin (omega arith))
+
+split : (d u b h : ℤ) → d *ℤ (u *ℤ h) +ℤ u *ℤ (b -ℤ d *ℤ h) ≡ u *ℤ b
+split = rep₄ _ (λ a b c d e f g h. simp lin (omega arith))
+
+pub nearest-split : (u b h : ℤ) (half : ℕ) → 0 < half → u *ℤ h +ℤ floorDiv (u *ℤ (b -ℤ pos (2 * half) *ℤ h) +ℤ pos half) (2 * half) ≡ nearest (u *ℤ b) (2 * half)
+nearest-split u b h half k =
+    let d = 2 * half in
+    let ul = u *ℤ (b -ℤ pos d *ℤ h) in
+    let q = floorDiv (ul +ℤ pos half) d in
+    let f = floored (ul +ℤ pos half) d (omega arith) in
+    sym (nearest-is (u *ℤ b) (u *ℤ h +ℤ q) d (omega arith) (rw (← split (pos d) u b h) (record { under = split-under half ul q (u *ℤ h) (f .under); above = split-above half ul q (u *ℤ h) (f .above) })))

@@ -3,7 +3,7 @@
 use mathlib.Core.Path.{_≡_, sym, ap, subst}
 use Prim.Native.Nat.{ℕ, zero, suc, _+_, _*_, _-_, _^_, _≤_}
 use native.Mathlib.Omega.{arith}
-use native.Mathlib.Nat.{mul-le-mul, mul-le-mul-right, pow-succ', pow-zero}
+use native.Mathlib.Nat.{mul-le-mul, mul-le-mul-left, mul-le-mul-right, pow-succ', pow-zero}
 use lib.IntN.{ℤ, pos, _+ℤ_, _-ℤ_, _*ℤ_, natAbs}
 use lib.Signed.{_≤ℤ_}
 use Rattle.numbers.proofs.Order.{abs-+, abs-*, sq→abs, drop-r, ≤abs, le-pos, +-mono, *-mono}
@@ -99,3 +99,8 @@ module _ (p q : ℤ) (H : ℕ) (bp : natAbs p ≤ H) (bq : natAbs q ≤ H) where
 pub lipschitz-at : (p q : ℤ) (H : ℕ) → natAbs p ≤ H → natAbs q ≤ H → (k : ℕ) → natAbs (E p (pos H) k -ℤ E q (pos H) k) ≤ k * k * H ^ (k - 1) * natAbs (p -ℤ q)
 lipschitz-at p q H bp bq zero = rw (E-zero p (pos H), E-zero q (pos H)) (omega arith)
 lipschitz-at p q H bp bq (suc n) = let e : suc n - 1 ≡ n = omega arith in rw e (lipschitz p q H bp bq n)
+
+-- how far E moves, times the radius, so that no power goes down by one
+pub E-moves : (a b : ℤ) (R : ℕ) → natAbs a ≤ R → natAbs b ≤ R → (k : ℕ) → R * natAbs (E a (pos R) k -ℤ E b (pos R) k) ≤ k * k * R ^ k * natAbs (a -ℤ b)
+E-moves a b R ha hb zero = rw (E-zero a (pos R), E-zero b (pos R)) (omega arith)
+E-moves a b R ha hb (suc k) = omega (arith, mul-le-mul-left R (lipschitz a b R ha hb k), ap (λ (x : ℕ). suc k * suc k * x * natAbs (a -ℤ b)) (pow-succ' R k))

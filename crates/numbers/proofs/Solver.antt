@@ -264,3 +264,8 @@ all₇ P f x y z w v u t = f (x ∷ y ∷ z ∷ w ∷ v ∷ u ∷ t ∷ [])
 pub all₈ : (P : ℤ → ℤ → ℤ → ℤ → ℤ → ℤ → ℤ → ℤ → Type 0) → ((ρ : List ℤ) → P (nth ρ 0) (nth ρ 1) (nth ρ 2) (nth ρ 3) (nth ρ 4) (nth ρ 5) (nth ρ 6) (nth ρ 7)) → (x y z w v u t s : ℤ) → P x y z w v u t s
 unfolding nth
 all₈ P f x y z w v u t s = f (x ∷ y ∷ z ∷ w ∷ v ∷ u ∷ t ∷ s ∷ [])
+
+pub all₉ : (P : ℤ → ℤ → ℤ → ℤ → ℤ → ℤ → ℤ → ℤ → ℤ → Type 0) → ((ρ : List ℤ) → P (nth ρ 0) (nth ρ 1) (nth ρ 2) (nth ρ 3) (nth ρ 4) (nth ρ 5) (nth ρ 6) (nth ρ 7) (nth ρ 8))
+    → (x y z w v u t s r : ℤ) → P x y z w v u t s r
+unfolding nth
+all₉ P f x y z w v u t s r = f (x ∷ y ∷ z ∷ w ∷ v ∷ u ∷ t ∷ s ∷ r ∷ [])

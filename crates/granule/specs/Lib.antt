@@ -1,0 +1,4 @@
+pub mod Rule
+pub mod Tests
+pub mod Asked
+pub mod Known
