@@ -11,20 +11,35 @@ mod stage;
 mod tables;
 mod written_dates;
 
-pub use interface::{Answer, Date, Desk, TableAnswer};
+pub use interface::{Answer, Called, Date, Desk, Failure, Outcome, TableAnswer};
 pub use ledger::Ledger;
-pub use own::own_desk;
+pub use own::Own;
 pub use stage::{Size, Stage};
 
-/// One comparison: the function's name, and how it is compared. The comparison
-/// gives None where the desk lacks the function.
+/// One comparison: the function's name, and how it is compared.
 pub struct Comparison {
     pub name: &'static str,
-    pub run: fn(&Desk, &Stage) -> Option<Ledger>,
+    run: fn(&mut dyn Desk, &Stage, &mut Ledger) -> Result<(), Failure>,
 }
 
-/// Every comparison there is. A new function adds its line here, its slot in
-/// `Desk` and its declaration in `library`.
+impl Comparison {
+    /// None where the desk lacks the function. A desk that breaks down is a
+    /// difference, and ends the comparison.
+    pub fn run(&self, desk: &mut dyn Desk, stage: &Stage) -> Option<Ledger> {
+        let mut ledger = Ledger::default();
+        match (self.run)(desk, stage, &mut ledger) {
+            Ok(()) => Some(ledger),
+            Err(Failure::Missing) => None,
+            Err(Failure::Lost(what)) => {
+                ledger.differs(|| what);
+                Some(ledger)
+            }
+        }
+    }
+}
+
+/// Every comparison there is. A new function adds its line here, its method in
+/// `Desk`, and its number in the bridge.
 pub const COMPARISONS: [Comparison; 8] = [
     Comparison {
         name: "colliedash_judge",
@@ -61,11 +76,15 @@ pub const COMPARISONS: [Comparison; 8] = [
 ];
 
 /// Runs every comparison that the desk has a function for and prints a line
-/// for each. Gives the number of differences.
-pub fn run(desk: &Desk, stage: &Stage) -> u64 {
+/// for each. Gives the number of differences. Each comparison starts a desk of
+/// its own, so that a function that breaks it takes no other one with it.
+pub fn run(
+    start: impl Fn() -> Result<Box<dyn Desk>, String>,
+    stage: &Stage,
+) -> Result<u64, String> {
     let mut different = 0;
     for comparison in &COMPARISONS {
-        match (comparison.run)(desk, stage) {
+        match comparison.run(&mut *start()?, stage) {
             None => println!("{}: not in the archive", comparison.name),
             Some(ledger) => {
                 println!("{}: {}", comparison.name, ledger.summary());
@@ -76,13 +95,12 @@ pub fn run(desk: &Desk, stage: &Stage) -> u64 {
             }
         }
     }
-    different
+    Ok(different)
 }
 
-/// What `second compare` says when no archive is linked.
+/// What `second compare` says when it is given no command.
 pub fn list() {
-    println!("No archive is linked, so nothing was compared.");
-    println!("Build with COLLIEDASH_ARCHIVE naming the archive, then run it again.");
+    println!("No bridge was named, so nothing was compared.");
     println!("The comparisons that exist:");
     for comparison in &COMPARISONS {
         println!("    {}", comparison.name);

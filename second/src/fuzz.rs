@@ -1,4 +1,4 @@
-//! `second fuzz PROGRAM`: a line program against second's own on random and
+//! `second fuzz COMMAND..`: a line program against second's own on random and
 //! hostile input and tables.
 
 use crate::blocks::{self, BLOCK, GREATEST_BLOCKS};
@@ -9,7 +9,7 @@ use crate::line;
 use crate::table::Judged;
 use std::fs;
 use std::io::{self, Read, Write};
-use std::path::{Path, PathBuf};
+use std::path::{self, Path, PathBuf};
 use std::process::{Child, Command, ExitStatus, Stdio};
 use std::thread;
 use std::time::{Duration, Instant};
@@ -165,13 +165,15 @@ fn wait(child: &mut Child, limit: Duration) -> io::Result<Option<ExitStatus>> {
 /// The program's output, up to the given length, and how it ended; None where
 /// it did not in time.
 fn run_program(
-    program: &Path,
+    command: &[PathBuf],
     folder: &Path,
     case: &Case,
     most: usize,
     limit: Duration,
 ) -> io::Result<Option<(Vec<u8>, ExitStatus)>> {
+    let (program, arguments) = command.split_first().ok_or(io::ErrorKind::InvalidInput)?;
     let mut child = Command::new(program)
+        .args(arguments)
         .current_dir(folder)
         .stdin(Stdio::piped())
         .stdout(Stdio::piped())
@@ -219,14 +221,14 @@ fn first_difference(case: &Case, got: &[u8], expected: &[u8]) -> String {
 }
 
 /// One case: None where the program did as second does.
-pub fn difference(program: &Path, number: u64, case: &Case, limit: Duration) -> Option<String> {
+fn difference(command: &[PathBuf], number: u64, case: &Case, limit: Duration) -> Option<String> {
     let folder = Folder::new(number).expect("a temporary folder");
     case.table
         .lay_out(&folder.0)
         .expect("table.blk is laid out");
     let expected = expected(case);
     let most = expected.len() + MORE_OUTPUT;
-    match run_program(program, &folder.0, case, most, limit) {
+    match run_program(command, &folder.0, case, most, limit) {
         Err(error) => Some(format!("the program cannot be run: {error}")),
         Ok(None) => Some(format!("did not finish in {limit:?}")),
         Ok(Some((output, _))) if output != expected => {
@@ -237,15 +239,29 @@ pub fn difference(program: &Path, number: u64, case: &Case, limit: Duration) -> 
     }
 }
 
+/// The words of a command that is to run in other folders. As in a shell, a
+/// word with a slash in it is a path; it is made whole if it leads anywhere, and
+/// that of the program must.
+fn words(command: &[&str]) -> io::Result<Vec<PathBuf>> {
+    let is_path = |word: &str| word.contains('/');
+    if let Some(program) = command.first().filter(|word| is_path(word)) {
+        fs::metadata(program)?;
+    }
+    let whole = |word: &&str| match is_path(word) && Path::new(word).exists() {
+        true => path::absolute(word),
+        false => Ok(PathBuf::from(word)),
+    };
+    command.iter().map(whole).collect()
+}
+
 /// Runs the cases, prints the first differences, and gives their number.
-pub fn run(program: &Path, cases: u64, limit: Duration) -> io::Result<u64> {
-    // The program runs in other folders, so its name must hold there.
-    let program = fs::canonicalize(program)?;
+pub fn run(command: &[&str], cases: u64, limit: Duration) -> io::Result<u64> {
+    let command = words(command)?;
     let mut different = 0;
     for number in 0..cases {
         // Each case has its own seed, so that one can be looked at alone.
         let case = any_case(&mut Random::new(SEED + number));
-        if let Some(what) = difference(&program, number, &case, limit) {
+        if let Some(what) = difference(&command, number, &case, limit) {
             different += 1;
             if different <= SHOWN {
                 let judged = match case.table.judged() {

@@ -2,6 +2,7 @@
 //! document 01 in one place, in 01's words. It judges the proved library.
 
 pub mod blocks;
+pub mod bridge;
 pub mod compare;
 pub mod dates;
 pub mod desk;
@@ -10,7 +11,6 @@ pub mod exact;
 pub mod fuzz;
 pub mod generate;
 pub mod granule;
-pub mod library;
 pub mod line;
 pub mod refusal;
 pub mod scales;

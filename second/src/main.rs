@@ -1,12 +1,15 @@
-//! The commands: `second tickline`, `second compare`, `second fuzz PROGRAM`.
+//! The commands: `second tickline`, `second compare`, `second fuzz`. A fourth,
+//! `second bridge`, is there for second's own tests alone.
 
-use second::compare::{self, Size, Stage};
-use second::{fuzz, library, line};
-use std::io::{self, BufWriter};
+use second::bridge::{self, Bridge, Fault};
+use second::compare::{self, Desk, Size, Stage};
+use second::{fuzz, line};
+use std::io::{self, BufReader, BufWriter};
 use std::path::Path;
 use std::process::ExitCode;
 
-const USAGE: &str = "usage: second tickline | second compare | second fuzz PROGRAM [CASES]";
+const USAGE: &str =
+    "usage: second tickline | second compare [COMMAND..] | second fuzz [--cases N] COMMAND..";
 const SEED: u64 = 1;
 const SIZE: Size = Size {
     tables: 160,
@@ -16,13 +19,21 @@ const SIZE: Size = Size {
 fn main() -> ExitCode {
     let arguments: Vec<String> = std::env::args().skip(1).collect();
     let arguments: Vec<&str> = arguments.iter().map(String::as_str).collect();
-    match arguments[..] {
+    match &arguments[..] {
         ["tickline"] => tickline(),
-        ["compare"] => compare_archive(),
-        ["fuzz", program] => fuzz_program(program, fuzz::DEFAULT_CASES),
-        ["fuzz", program, cases] => match cases.parse() {
-            Ok(cases) => fuzz_program(program, cases),
-            Err(_) => usage(),
+        ["compare"] => {
+            compare::list();
+            ExitCode::SUCCESS
+        }
+        ["compare", command @ ..] => compare_archive(command),
+        ["fuzz", "--cases", cases, command @ ..] => match cases.parse() {
+            Ok(cases) if !command.is_empty() => fuzz_program(command, cases),
+            _ => usage(),
+        },
+        ["fuzz", command @ ..] if !command.is_empty() => fuzz_program(command, fuzz::DEFAULT_CASES),
+        ["bridge", fault] => match Fault::named(fault) {
+            Some(fault) => serve(fault),
+            None => usage(),
         },
         _ => usage(),
     }
@@ -33,10 +44,9 @@ fn usage() -> ExitCode {
     ExitCode::from(2)
 }
 
-fn tickline() -> ExitCode {
-    let table = line::table_file(Path::new("table.blk"));
-    let mut output = BufWriter::new(io::stdout().lock());
-    match line::run(&mut io::stdin().lock(), &mut output, &table) {
+/// Standard input and output may fail; then there is nothing more to say there.
+fn ended(result: io::Result<()>) -> ExitCode {
+    match result {
         Ok(()) => ExitCode::SUCCESS,
         Err(error) => {
             eprintln!("standard input or output: {error}");
@@ -45,24 +55,38 @@ fn tickline() -> ExitCode {
     }
 }
 
-fn compare_archive() -> ExitCode {
-    let desk = library::linked();
-    if desk.is_empty() {
-        compare::list();
-        return ExitCode::SUCCESS;
-    }
-    match compare::run(&desk, &Stage::new(SEED, SIZE)) {
-        0 => ExitCode::SUCCESS,
-        _ => ExitCode::FAILURE,
+fn tickline() -> ExitCode {
+    let table = line::table_file(Path::new("table.blk"));
+    let mut output = BufWriter::new(io::stdout().lock());
+    ended(line::run(&mut io::stdin().lock(), &mut output, &table))
+}
+
+fn serve(fault: Fault) -> ExitCode {
+    let mut input = BufReader::new(io::stdin().lock());
+    ended(bridge::serve(&mut input, &mut io::stdout().lock(), fault))
+}
+
+fn compare_archive(command: &[&str]) -> ExitCode {
+    let start = || {
+        let bridge = Bridge::start(command, bridge::TIME_LIMIT)?;
+        Ok(Box::new(bridge) as Box<dyn Desk>)
+    };
+    match compare::run(start, &Stage::new(SEED, SIZE)) {
+        Ok(0) => ExitCode::SUCCESS,
+        Ok(_) => ExitCode::FAILURE,
+        Err(what) => {
+            eprintln!("{}: {what}", command.join(" "));
+            ExitCode::FAILURE
+        }
     }
 }
 
-fn fuzz_program(program: &str, cases: u64) -> ExitCode {
-    match fuzz::run(Path::new(program), cases, fuzz::TIME_LIMIT) {
+fn fuzz_program(command: &[&str], cases: u64) -> ExitCode {
+    match fuzz::run(command, cases, fuzz::TIME_LIMIT) {
         Ok(0) => ExitCode::SUCCESS,
         Ok(_) => ExitCode::FAILURE,
         Err(error) => {
-            eprintln!("{program}: {error}");
+            eprintln!("{}: {error}", command.join(" "));
             ExitCode::from(2)
         }
     }

@@ -1,46 +1,15 @@
 //! A table as blocks: writing, reading, and refusals 8 and 13 to 16 with their
 //! neighbours.
 
+mod common;
+
+use common::{both_refuse, flat, refused, table};
 use second::blocks::{self, BLOCK, check, image, judge};
 use second::generate::{Random, accepted_tables};
-use second::refusal::Refusal;
 use second::scales::GREATEST_EPOCH;
 use second::table::Table;
 
 const REAL: &[u8] = include_bytes!("../data/real.blk");
-
-fn table(degree: u32, length: i64, granules: &[&[i64]]) -> Table {
-    Table {
-        start: 0,
-        length,
-        count: granules.len() as u32,
-        degree,
-        coefficients: granules.concat(),
-    }
-}
-
-/// A table of zeros.
-fn flat(degree: u32, count: u32) -> Table {
-    Table {
-        start: 0,
-        length: 1_000_000_000,
-        count,
-        degree,
-        coefficients: vec![0; count as usize * (degree as usize + 1)],
-    }
-}
-
-fn refused<T>(number: u32, place: u64) -> Result<T, Refusal> {
-    Err(Refusal::new(number, place))
-}
-
-/// Writing and reading judge a table's own numbers alike.
-#[track_caller]
-fn both_refuse(table: &Table, number: u32, place: u64) {
-    let size = blocks::blocks_needed(table.count) as usize * BLOCK;
-    assert_eq!(blocks::write(table, size), refused(number, place));
-    assert_eq!(judge(&image(table)), refused(number, place));
-}
 
 #[track_caller]
 fn both_accept(table: &Table) {

@@ -3,7 +3,8 @@
 
 use second::blocks::{BLOCK, image};
 use second::compare::{
-    Answer, COMPARISONS, Date, Desk, Ledger, Size, Stage, TableAnswer, own_desk,
+    Answer, COMPARISONS, Called, Date, Desk, Failure, Ledger, Outcome, Own, Size, Stage,
+    TableAnswer,
 };
 use std::sync::LazyLock;
 
@@ -15,12 +16,12 @@ static STAGE: LazyLock<Stage> = LazyLock::new(|| {
     Stage::new(7, size)
 });
 
-fn compared(name: &str, desk: &Desk) -> Option<Ledger> {
+fn compared(name: &str, desk: &mut dyn Desk) -> Option<Ledger> {
     let comparison = COMPARISONS
         .iter()
         .find(|c| c.name == name)
         .expect("a comparison");
-    (comparison.run)(desk, &STAGE)
+    comparison.run(desk, &STAGE)
 }
 
 /// Every number that each function can give.
@@ -50,7 +51,7 @@ const NUMBERS: [(&str, &[u32]); 8] = [
 #[test]
 fn own_functions_show_no_difference_and_meet_every_number() {
     for (name, numbers) in NUMBERS {
-        let ledger = compared(name, &own_desk()).expect("own functions are all there");
+        let ledger = compared(name, &mut Own).expect("own functions are all there");
         assert_eq!(
             ledger.different, 0,
             "{name}: {:?}",
@@ -62,247 +63,225 @@ fn own_functions_show_no_difference_and_meet_every_number() {
     }
 }
 
+/// It has no function at all.
+struct Empty;
+impl Desk for Empty {}
+
 #[test]
 fn a_missing_function_is_not_compared() {
     for (name, _) in NUMBERS {
-        assert!(compared(name, &Desk::default()).is_none());
+        assert!(compared(name, &mut Empty).is_none());
     }
-    assert!(Desk::default().is_empty());
-    assert!(!own_desk().is_empty());
 }
 
 #[track_caller]
-fn is_reported(name: &str, desk: Desk) {
-    let ledger = compared(name, &desk).expect("the function is there");
+fn is_reported(name: &str, mut desk: impl Desk) {
+    let ledger = compared(name, &mut desk).expect("the function is there");
     assert!(ledger.different > 0, "{name}");
     assert!(!ledger.first_differences.is_empty());
 }
 
-unsafe extern "C" fn judge_wrong_place(table: *const u8, length: usize) -> TableAnswer {
-    let answer = unsafe { own_desk().judge.unwrap()(table, length) };
-    let place = if answer.number == 16 {
-        answer.place - 1
-    } else {
-        answer.place
-    };
-    TableAnswer { place, ..answer }
+/// Changes the answer of a call.
+fn changed<T>(outcome: Outcome<T>, change: impl FnOnce(&mut T)) -> Outcome<T> {
+    let Called { mut answer, beside } = outcome?;
+    change(&mut answer);
+    Ok(Called { answer, beside })
 }
 
-unsafe extern "C" fn read_writes_when_refused(
-    table: *const u8,
-    length: usize,
-    list: *mut i64,
-    list_length: usize,
-) -> TableAnswer {
-    let answer = unsafe { own_desk().read_table.unwrap()(table, length, list, list_length) };
-    if answer.number == 8 && list_length > 0 {
-        unsafe { *list = 0 };
+struct JudgeWrongPlace;
+impl Desk for JudgeWrongPlace {
+    fn judge(&mut self, table: Option<&[u8]>) -> Outcome<TableAnswer> {
+        changed(Own.judge(table), |answer| {
+            answer.place -= u64::from(answer.number == 16);
+        })
     }
-    answer
 }
 
-unsafe extern "C" fn read_writes_nothing(
-    table: *const u8,
-    length: usize,
-    list: *mut i64,
-    list_length: usize,
-) -> TableAnswer {
-    let mut elsewhere = vec![0; list_length];
-    assert!(list_length == 0 || !list.is_null());
-    unsafe { own_desk().read_table.unwrap()(table, length, elsewhere.as_mut_ptr(), list_length) }
-}
-
-unsafe extern "C" fn write_leaves_the_last_byte(
-    start: i64,
-    length: i64,
-    count: u32,
-    degree: u32,
-    coefficients: *const i64,
-    coefficients_length: usize,
-    image: *mut u8,
-    image_length: usize,
-) -> Answer {
-    let write = own_desk().write_table.unwrap();
-    let (list, size) = (coefficients, coefficients_length);
-    let kept = match image_length {
-        0 => 0,
-        _ => unsafe { *image.add(image_length - 1) },
-    };
-    let answer = unsafe {
-        write(
-            start,
-            length,
-            count,
-            degree,
-            list,
-            size,
-            image,
-            image_length,
-        )
-    };
-    if answer.number == 0 {
-        unsafe { *image.add(image_length - 1) = kept };
+struct ReadWritesWhenRefused;
+impl Desk for ReadWritesWhenRefused {
+    fn read_table(
+        &mut self,
+        table: Option<&[u8]>,
+        mut list: Option<&mut [i64]>,
+    ) -> Outcome<TableAnswer> {
+        let called = Own.read_table(table, list.as_deref_mut())?;
+        if called.answer.number == 8 && list.as_ref().is_some_and(|list| !list.is_empty()) {
+            list.unwrap_or_default()[0] = 0;
+        }
+        Ok(called)
     }
-    answer
 }
 
-unsafe extern "C" fn date_second_too_great(tick: i64) -> Date {
-    let date = unsafe { own_desk().write_date.unwrap()(tick) };
-    let second = if date.second > 0.9 {
-        date.second.next_up()
-    } else {
-        date.second
-    };
-    Date { second, ..date }
+struct ReadWritesNothing;
+impl Desk for ReadWritesNothing {
+    fn read_table(
+        &mut self,
+        table: Option<&[u8]>,
+        list: Option<&mut [i64]>,
+    ) -> Outcome<TableAnswer> {
+        let mut elsewhere = vec![0; list.unwrap_or_default().len()];
+        Own.read_table(table, Some(&mut elsewhere))
+    }
 }
 
-unsafe extern "C" fn date_negative_zero(tick: i64) -> Date {
-    let date = unsafe { own_desk().write_date.unwrap()(tick) };
-    let second = if date.second == 0.0 {
-        -0.0
-    } else {
-        date.second
-    };
-    Date { second, ..date }
+struct WriteLeavesTheLastByte;
+impl Desk for WriteLeavesTheLastByte {
+    fn write_table(
+        &mut self,
+        range: (i64, i64),
+        sizes: (u32, u32),
+        list: Option<&[i64]>,
+        mut image: Option<&mut [u8]>,
+    ) -> Outcome<Answer> {
+        let kept = image.as_ref().and_then(|image| image.last().copied());
+        let called = Own.write_table(range, sizes, list, image.as_deref_mut())?;
+        if let (0, Some(kept)) = (called.answer.number, kept) {
+            *image.unwrap_or_default().last_mut().unwrap() = kept;
+        }
+        Ok(called)
+    }
 }
 
-unsafe extern "C" fn ticks_too_few_steps(
-    from: u32,
-    to: u32,
-    tick: i64,
-    table: *const u8,
-    length: usize,
-) -> Answer {
-    let answer = unsafe { own_desk().convert_ticks.unwrap()(from, to, tick, table, length) };
-    let steps = answer.steps.min(3);
-    Answer { steps, ..answer }
+struct DateSecondTooGreat;
+impl Desk for DateSecondTooGreat {
+    fn write_date(&mut self, tick: i64) -> Outcome<Date> {
+        changed(Own.write_date(tick), |date| {
+            if date.second > 0.9 {
+                date.second = date.second.next_up();
+            }
+        })
+    }
+}
+
+struct DateNegativeZero;
+impl Desk for DateNegativeZero {
+    fn write_date(&mut self, tick: i64) -> Outcome<Date> {
+        changed(Own.write_date(tick), |date| {
+            if date.second == 0.0 {
+                date.second = -0.0;
+            }
+        })
+    }
+}
+
+struct TicksTooFewSteps;
+impl Desk for TicksTooFewSteps {
+    fn convert_ticks(
+        &mut self,
+        codes: (u32, u32),
+        tick: i64,
+        table: Option<&[u8]>,
+    ) -> Outcome<Answer> {
+        changed(Own.convert_ticks(codes, tick, table), |answer| {
+            answer.steps = answer.steps.min(3);
+        })
+    }
 }
 
 /// Rounds the sum of the parts, not each part.
-unsafe extern "C" fn dates_added_before_rounding(
-    from: u32,
-    to: u32,
-    first: f64,
-    second: f64,
-    table: *const u8,
-    length: usize,
-) -> Answer {
-    let convert = own_desk().convert_date.unwrap();
-    unsafe { convert(from, to, first + second, 0.0, table, length) }
+struct DatesAddedBeforeRounding;
+impl Desk for DatesAddedBeforeRounding {
+    fn convert_date(
+        &mut self,
+        codes: (u32, u32),
+        (first, second): (f64, f64),
+        table: Option<&[u8]>,
+    ) -> Outcome<Answer> {
+        Own.convert_date(codes, (first + second, 0.0), table)
+    }
 }
 
 /// Rounds halves to the lesser: the negative of the negative's greater.
-unsafe extern "C" fn seconds_halves_down(
-    from: u32,
-    to: u32,
-    seconds: f64,
-    table: *const u8,
-    length: usize,
-) -> Answer {
-    let convert = own_desk().convert_j2000.unwrap();
-    let answer = unsafe { convert(from, to, seconds, table, length) };
-    let is_half = (seconds * 1024.0).fract() == 0.0 && (seconds * 512.0).fract() != 0.0;
-    let tick = if is_half && answer.number == 0 {
-        answer.tick - 1
-    } else {
-        answer.tick
-    };
-    Answer { tick, ..answer }
+struct SecondsHalvesDown;
+impl Desk for SecondsHalvesDown {
+    fn convert_j2000(
+        &mut self,
+        codes: (u32, u32),
+        seconds: f64,
+        table: Option<&[u8]>,
+    ) -> Outcome<Answer> {
+        let is_half = (seconds * 1024.0).fract() == 0.0 && (seconds * 512.0).fract() != 0.0;
+        changed(Own.convert_j2000(codes, seconds, table), |answer| {
+            answer.tick -= i64::from(is_half && answer.number == 0);
+        })
+    }
 }
 
-/// Converts its first entry and copies the rest.
-unsafe extern "C" fn batch_copies_the_rest(
-    from: u32,
-    to: u32,
-    ticks: *const i64,
-    ticks_length: usize,
-    answers: *mut i64,
-    answers_length: usize,
-    table: *const u8,
-    length: usize,
-) -> Answer {
-    let batch = own_desk().batch.unwrap();
-    let (list, size) = (ticks, ticks_length);
-    let answer = unsafe { batch(from, to, list, size, answers, answers_length, table, length) };
-    for i in 1..if answer.number == 0 { ticks_length } else { 0 } {
-        unsafe { *answers.add(i) = *ticks.add(i) };
+/// Converts its first entry and copies the rest, or copies the entries before
+/// the refused one.
+struct BatchCopies {
+    the_rest: bool,
+}
+impl Desk for BatchCopies {
+    fn batch(
+        &mut self,
+        codes: (u32, u32),
+        ticks: Option<&[i64]>,
+        mut answers: Option<&mut [i64]>,
+        table: Option<&[u8]>,
+    ) -> Outcome<Answer> {
+        let called = Own.batch(codes, ticks, answers.as_deref_mut(), table)?;
+        let ticks = ticks.unwrap_or_default();
+        let copied = match (self.the_rest, called.answer.number) {
+            (true, 0) => 1.min(ticks.len())..ticks.len(),
+            _ => 0..called.answer.index as usize,
+        };
+        answers.unwrap_or_default()[copied.clone()].copy_from_slice(&ticks[copied]);
+        Ok(called)
     }
-    answer
 }
 
-/// Writes the entries before the refused one.
-unsafe extern "C" fn batch_writes_as_it_goes(
-    from: u32,
-    to: u32,
-    ticks: *const i64,
-    ticks_length: usize,
-    answers: *mut i64,
-    answers_length: usize,
-    table: *const u8,
-    length: usize,
-) -> Answer {
-    let batch = own_desk().batch.unwrap();
-    let (list, size) = (ticks, ticks_length);
-    let answer = unsafe { batch(from, to, list, size, answers, answers_length, table, length) };
-    for i in 0..answer.index as usize {
-        unsafe { *answers.add(i) = *ticks.add(i) };
+/// Answers rightly, but writes where it should not.
+struct JudgeWritesBeside;
+impl Desk for JudgeWritesBeside {
+    fn judge(&mut self, table: Option<&[u8]>) -> Outcome<TableAnswer> {
+        let answer = Own.judge(table)?.answer;
+        let beside = vec!["bytes beside the lent table were written"];
+        Ok(Called { answer, beside })
     }
-    answer
+}
+
+/// Breaks down at its third call.
+struct JudgeBreaksDown(u64);
+impl Desk for JudgeBreaksDown {
+    fn judge(&mut self, table: Option<&[u8]>) -> Outcome<TableAnswer> {
+        self.0 += 1;
+        match self.0 {
+            3 => Err(Failure::Lost("broken".into())),
+            _ => Own.judge(table),
+        }
+    }
 }
 
 #[test]
 fn planted_differences_in_tables_are_reported() {
-    let own = own_desk();
-    let judge = Some(judge_wrong_place as _);
-    is_reported("colliedash_judge", Desk { judge, ..own });
-    let read_table = Some(read_writes_when_refused as _);
-    is_reported("colliedash_read_table", Desk { read_table, ..own });
-    let read_table = Some(read_writes_nothing as _);
-    is_reported("colliedash_read_table", Desk { read_table, ..own });
-    let write_table = Some(write_leaves_the_last_byte as _);
-    is_reported("colliedash_write_table", Desk { write_table, ..own });
+    is_reported("colliedash_judge", JudgeWrongPlace);
+    is_reported("colliedash_judge", JudgeWritesBeside);
+    is_reported("colliedash_read_table", ReadWritesWhenRefused);
+    is_reported("colliedash_read_table", ReadWritesNothing);
+    is_reported("colliedash_write_table", WriteLeavesTheLastByte);
 }
 
 #[test]
 fn planted_differences_in_dates_and_conversions_are_reported() {
-    let own = own_desk();
-    let write_date = Some(date_second_too_great as _);
-    is_reported("colliedash_write_date", Desk { write_date, ..own });
-    let write_date = Some(date_negative_zero as _);
-    is_reported("colliedash_write_date", Desk { write_date, ..own });
-    let convert_ticks = Some(ticks_too_few_steps as _);
-    is_reported(
-        "colliedash_convert_ticks",
-        Desk {
-            convert_ticks,
-            ..own
-        },
-    );
-    let convert_date = Some(dates_added_before_rounding as _);
-    is_reported(
-        "colliedash_convert_date",
-        Desk {
-            convert_date,
-            ..own
-        },
-    );
-    let convert_j2000 = Some(seconds_halves_down as _);
-    is_reported(
-        "colliedash_convert_j2000",
-        Desk {
-            convert_j2000,
-            ..own
-        },
-    );
+    is_reported("colliedash_write_date", DateSecondTooGreat);
+    is_reported("colliedash_write_date", DateNegativeZero);
+    is_reported("colliedash_convert_ticks", TicksTooFewSteps);
+    is_reported("colliedash_convert_date", DatesAddedBeforeRounding);
+    is_reported("colliedash_convert_j2000", SecondsHalvesDown);
 }
 
 #[test]
 fn planted_differences_in_batches_are_reported() {
-    let own = own_desk();
-    let batch = Some(batch_copies_the_rest as _);
-    is_reported("colliedash_batch", Desk { batch, ..own });
-    let batch = Some(batch_writes_as_it_goes as _);
-    is_reported("colliedash_batch", Desk { batch, ..own });
+    is_reported("colliedash_batch", BatchCopies { the_rest: true });
+    is_reported("colliedash_batch", BatchCopies { the_rest: false });
+}
+
+#[test]
+fn a_desk_that_breaks_down_is_one_difference_and_ends_the_comparison() {
+    let ledger = compared("colliedash_judge", &mut JudgeBreaksDown(0)).unwrap();
+    assert_eq!((ledger.cases, ledger.different), (3, 1));
+    assert_eq!(ledger.first_differences, ["image 2: broken"]);
 }
 
 /// The stage holds the real table and both ends of the sizes.

@@ -3,7 +3,7 @@
 
 use std::fs;
 use std::os::unix::fs::PermissionsExt;
-use std::path::{Path, PathBuf};
+use std::path::PathBuf;
 use std::process::{Command, Output};
 use std::time::Duration;
 
@@ -22,7 +22,7 @@ impl Program {
     }
 
     fn fuzzed(&self, cases: &str) -> Output {
-        let command = ["fuzz", self.0.to_str().unwrap(), cases];
+        let command = ["fuzz", "--cases", cases, self.0.to_str().unwrap()];
         Command::new(SECOND).args(command).output().unwrap()
     }
 }
@@ -74,13 +74,14 @@ fn wrong_programs_show_differences() {
 fn a_program_that_does_not_finish_is_a_difference() {
     let program = Program::new("slow", "exec sleep 60");
     let limit = Duration::from_millis(300);
-    assert_eq!(second::fuzz::run(&program.0, 2, limit).unwrap(), 2);
+    let command = [program.0.to_str().unwrap()];
+    assert_eq!(second::fuzz::run(&command, 2, limit).unwrap(), 2);
 }
 
 #[test]
 fn a_program_that_is_not_there_is_told() {
-    let missing = Path::new("/nonexistent/program");
-    assert!(second::fuzz::run(missing, 1, Duration::from_secs(1)).is_err());
+    let missing = ["/nonexistent/program"];
+    assert!(second::fuzz::run(&missing, 1, Duration::from_secs(1)).is_err());
     let output = Command::new(SECOND)
         .args(["fuzz", "/nonexistent/program"])
         .output()
@@ -94,7 +95,9 @@ fn commands_that_are_not_understood_are_told() {
         &[][..],
         &["nothing"],
         &["fuzz"],
-        &["fuzz", "program", "many"],
+        &["fuzz", "--cases", "many", "program"],
+        &["fuzz", "--cases", "3"],
+        &["bridge", "nothing"],
     ] {
         let output = Command::new(SECOND).args(command).output().unwrap();
         assert_eq!(output.status.code(), Some(2));
@@ -102,15 +105,26 @@ fn commands_that_are_not_understood_are_told() {
     }
 }
 
-/// Without an archive `second compare` says so and lists what exists; with one
-/// it tells of every function too.
+/// Both words are paths from the folder that the command was given in.
 #[test]
-fn compare_tells_of_every_function() {
-    let output = Command::new(SECOND).arg("compare").output().unwrap();
-    let linked = !second::library::linked().is_empty();
-    assert_eq!(text(&output).starts_with("No archive is linked"), !linked);
-    assert!(output.status.success() || linked);
-    for comparison in &second::compare::COMPARISONS {
-        assert!(text(&output).contains(comparison.name));
-    }
+fn the_words_of_a_command_hold_in_other_folders() {
+    let run = Program::new("run", "exec \"$@\"");
+    let tickline = Program::new("tickline", &format!("exec '{SECOND}' tickline"));
+    let [run, tickline] = [&run, &tickline].map(|p| {
+        let name = p.0.file_name().unwrap().to_str().unwrap();
+        format!("./{name}")
+    });
+    let output = Command::new(SECOND)
+        .current_dir(std::env::temp_dir())
+        .args(["fuzz", "--cases", "20", &run, &tickline])
+        .output()
+        .unwrap();
+    assert_eq!(text(&output), "20 cases, 0 differences\n");
+}
+
+#[test]
+fn words_that_are_no_path_go_as_they_are() {
+    let command = ["fuzz", "--cases", "20", SECOND, "tickline"];
+    let output = Command::new(SECOND).args(command).output().unwrap();
+    assert_eq!(text(&output), "20 cases, 0 differences\n");
 }

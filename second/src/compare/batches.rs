@@ -1,24 +1,22 @@
 //! The comparison of batches.
 
-use super::buffers::{lent_ticks, pointer};
-use super::interface::{Answer, BatchOfTicks, Desk};
+use super::buffers::{blank_ticks, lend, lend_mut};
+use super::interface::{Answer, Desk, Failure};
 use super::ledger::Ledger;
 use super::stage::{Stage, Staged, any_code};
 use crate::dates::Reading;
 use crate::desk;
 use crate::generate::Random;
 
-pub fn batch(desk: &Desk, stage: &Stage) -> Option<Ledger> {
-    let batch = desk.batch?;
+pub fn batch(desk: &mut dyn Desk, stage: &Stage, ledger: &mut Ledger) -> Result<(), Failure> {
     let mut random = Random::new(stage.seed ^ 0xba7c);
-    let mut ledger = Ledger::default();
     for staged in &stage.staged {
         for _ in 0..stage.size.conversions / 2 {
             let asked = any_batch(&mut random, staged);
-            compare_one(&mut ledger, batch, staged, &asked);
+            compare_one(ledger, desk, staged, &asked)?;
         }
     }
-    Some(ledger)
+    Ok(())
 }
 
 struct Asked {
@@ -61,7 +59,12 @@ fn any_batch(random: &mut Random, staged: &Staged) -> Asked {
     }
 }
 
-fn compare_one(ledger: &mut Ledger, batch: BatchOfTicks, staged: &Staged, asked: &Asked) {
+fn compare_one(
+    ledger: &mut Ledger,
+    desk: &mut dyn Desk,
+    staged: &Staged,
+    asked: &Asked,
+) -> Result<(), Failure> {
     let Asked {
         from,
         to,
@@ -71,36 +74,24 @@ fn compare_one(ledger: &mut Ledger, batch: BatchOfTicks, staged: &Staged, asked:
     let expected = desk::batch(*from, *to, ticks, *answers_length, &staged.judged);
     let answer = Answer::from(expected.as_ref().map(|b| b.steps).map_err(|r| *r));
     let null = ledger.cases.is_multiple_of(2);
-    let kept = ticks.clone();
-    let mut answers = lent_ticks(*answers_length);
+    let mut answers = blank_ticks(*answers_length);
     ledger.count(answer.number);
-    let got = unsafe {
-        batch(
-            *from,
-            *to,
-            pointer(ticks, null),
-            ticks.len(),
-            answers.pointer(null),
-            *answers_length,
-            pointer(&staged.bytes, null),
-            staged.bytes.len(),
-        )
-    };
-    let call = || format!("{from} to {to}, {ticks:?} into {answers_length}");
-    ledger.same(got, answer, call);
-    ledger.holds(*ticks == kept, "the ticks lent to read were changed", call);
-    ledger.holds(
-        staged.is_as_it_was(),
-        "the table's bytes were changed",
-        call,
+    let outcome = desk.batch(
+        (*from, *to),
+        lend(ticks, null),
+        lend_mut(&mut answers, null),
+        lend(&staged.bytes, null),
     );
-    let answers_right = match &expected {
-        Ok(batch) => answers.is_exactly(&batch.ticks),
-        Err(_) => answers.is_as_it_was(),
+    let call = || format!("{from} to {to}, {ticks:?} into {answers_length}");
+    ledger.same(outcome, answer, call)?;
+    let right = match expected {
+        Ok(batch) => batch.ticks,
+        Err(_) => blank_ticks(*answers_length),
     };
     ledger.holds(
-        answers_right,
+        answers == right,
         "the lent answers are not as they should be",
         call,
     );
+    Ok(())
 }

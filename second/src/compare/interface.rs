@@ -1,10 +1,9 @@
-//! The C interface: the three answers, and a desk as a set of functions.
+//! The interface: the three answers, and a desk as a set of functions.
 
 use crate::desk::{BatchRefusal, Converted};
 use crate::refusal::Refusal;
 use crate::table::Judged;
 
-#[repr(C)]
 #[derive(Clone, Copy, Debug, Default, PartialEq, Eq)]
 pub struct Answer {
     pub number: u32,
@@ -14,7 +13,6 @@ pub struct Answer {
     pub tick: i64,
 }
 
-#[repr(C)]
 #[derive(Clone, Copy, Debug, Default)]
 pub struct Date {
     pub number: u32,
@@ -23,7 +21,6 @@ pub struct Date {
     pub second: f64,
 }
 
-#[repr(C)]
 #[derive(Clone, Copy, Debug, Default, PartialEq, Eq)]
 pub struct TableAnswer {
     pub number: u32,
@@ -113,39 +110,105 @@ impl From<Result<(f64, f64), Refusal>> for Date {
     }
 }
 
-pub type Judge = unsafe extern "C" fn(*const u8, usize) -> TableAnswer;
-pub type ReadTable = unsafe extern "C" fn(*const u8, usize, *mut i64, usize) -> TableAnswer;
-pub type WriteTable =
-    unsafe extern "C" fn(i64, i64, u32, u32, *const i64, usize, *mut u8, usize) -> Answer;
-pub type WriteDate = unsafe extern "C" fn(i64) -> Date;
-pub type ConvertTicks = unsafe extern "C" fn(u32, u32, i64, *const u8, usize) -> Answer;
-pub type ConvertDate = unsafe extern "C" fn(u32, u32, f64, f64, *const u8, usize) -> Answer;
-pub type ConvertJ2000 = unsafe extern "C" fn(u32, u32, f64, *const u8, usize) -> Answer;
-pub type BatchOfTicks =
-    unsafe extern "C" fn(u32, u32, *const i64, usize, *mut i64, usize, *const u8, usize) -> Answer;
-
-/// The functions to be compared; a slot is empty where there is none yet.
-#[derive(Clone, Copy, Default)]
-pub struct Desk {
-    pub judge: Option<Judge>,
-    pub read_table: Option<ReadTable>,
-    pub write_table: Option<WriteTable>,
-    pub write_date: Option<WriteDate>,
-    pub convert_ticks: Option<ConvertTicks>,
-    pub convert_date: Option<ConvertDate>,
-    pub convert_j2000: Option<ConvertJ2000>,
-    pub batch: Option<BatchOfTicks>,
+/// What one call did: its answer, and what it wrote that it should not have.
+#[derive(Clone, Debug, Default, PartialEq, Eq)]
+pub struct Called<T> {
+    pub answer: T,
+    pub beside: Vec<&'static str>,
 }
 
-impl Desk {
-    pub fn is_empty(&self) -> bool {
-        self.judge.is_none()
-            && self.read_table.is_none()
-            && self.write_table.is_none()
-            && self.write_date.is_none()
-            && self.convert_ticks.is_none()
-            && self.convert_date.is_none()
-            && self.convert_j2000.is_none()
-            && self.batch.is_none()
+impl<T> From<T> for Called<T> {
+    fn from(answer: T) -> Called<T> {
+        let beside = Vec::new();
+        Called { answer, beside }
+    }
+}
+
+/// Why there is no answer.
+#[derive(Clone, Debug, PartialEq, Eq)]
+pub enum Failure {
+    /// The desk does not have this function yet.
+    Missing,
+    /// The desk broke down, and answers nothing any more.
+    Lost(String),
+}
+
+impl Failure {
+    /// Adds the call in which it happened.
+    pub fn during(self, call: impl Fn() -> String) -> Failure {
+        match self {
+            Failure::Missing => Failure::Missing,
+            Failure::Lost(what) => Failure::Lost(format!("{}: {what}", call())),
+        }
+    }
+}
+
+pub type Outcome<T> = Result<Called<T>, Failure>;
+
+/// The functions to be compared. A lent list that is None goes as a null
+/// pointer of length 0. A desk that lacks a function leaves its method out.
+#[allow(unused_variables)]
+pub trait Desk {
+    fn judge(&mut self, table: Option<&[u8]>) -> Outcome<TableAnswer> {
+        Err(Failure::Missing)
+    }
+
+    fn read_table(
+        &mut self,
+        table: Option<&[u8]>,
+        coefficients: Option<&mut [i64]>,
+    ) -> Outcome<TableAnswer> {
+        Err(Failure::Missing)
+    }
+
+    fn write_table(
+        &mut self,
+        (start, length): (i64, i64),
+        (count, degree): (u32, u32),
+        coefficients: Option<&[i64]>,
+        image: Option<&mut [u8]>,
+    ) -> Outcome<Answer> {
+        Err(Failure::Missing)
+    }
+
+    fn write_date(&mut self, tick: i64) -> Outcome<Date> {
+        Err(Failure::Missing)
+    }
+
+    fn convert_ticks(
+        &mut self,
+        (from, to): (u32, u32),
+        tick: i64,
+        table: Option<&[u8]>,
+    ) -> Outcome<Answer> {
+        Err(Failure::Missing)
+    }
+
+    fn convert_date(
+        &mut self,
+        (from, to): (u32, u32),
+        (first, second): (f64, f64),
+        table: Option<&[u8]>,
+    ) -> Outcome<Answer> {
+        Err(Failure::Missing)
+    }
+
+    fn convert_j2000(
+        &mut self,
+        (from, to): (u32, u32),
+        seconds: f64,
+        table: Option<&[u8]>,
+    ) -> Outcome<Answer> {
+        Err(Failure::Missing)
+    }
+
+    fn batch(
+        &mut self,
+        (from, to): (u32, u32),
+        ticks: Option<&[i64]>,
+        answers: Option<&mut [i64]>,
+        table: Option<&[u8]>,
+    ) -> Outcome<Answer> {
+        Err(Failure::Missing)
     }
 }

@@ -14,16 +14,8 @@ const REAL: &[u8] = include_bytes!("../../data/real.blk");
 /// One table's bytes, second's own judgement, and ticks to convert.
 pub struct Staged {
     pub bytes: Vec<u8>,
-    kept: Vec<u8>,
     pub judged: Judged,
     pub ticks: Vec<i64>,
-}
-
-impl Staged {
-    /// Whether no call has changed the table's bytes.
-    pub fn is_as_it_was(&self) -> bool {
-        self.bytes == self.kept
-    }
 }
 
 /// How much is compared: tables, and conversions for each table.
@@ -84,7 +76,6 @@ fn staged(random: &mut Random, bytes: Vec<u8>) -> Staged {
         ticks.extend(inside);
     }
     Staged {
-        kept: bytes.clone(),
         bytes,
         judged,
         ticks,

@@ -1,7 +1,7 @@
 //! The comparisons of judging, reading and writing tables.
 
-use super::buffers::{lent_bytes, lent_ticks, pointer};
-use super::interface::{Answer, Desk, TableAnswer, WriteTable};
+use super::buffers::{blank_bytes, blank_ticks, lend, lend_mut};
+use super::interface::{Answer, Desk, Failure, TableAnswer};
 use super::ledger::Ledger;
 use super::stage::Stage;
 use crate::blocks::{self, BLOCK};
@@ -11,24 +11,17 @@ use crate::refusal::Refusal;
 use crate::scales::GREATEST_EPOCH;
 use crate::table::{GREATEST_COEFFICIENT, GREATEST_COUNT, GREATEST_LENGTH, LEAST_LENGTH, Table};
 
-pub fn judge(desk: &Desk, stage: &Stage) -> Option<Ledger> {
-    let judge = desk.judge?;
-    let mut ledger = Ledger::default();
+pub fn judge(desk: &mut dyn Desk, stage: &Stage, ledger: &mut Ledger) -> Result<(), Failure> {
     for (case, image) in stage.images.iter().enumerate() {
         let expected = TableAnswer::from(&blocks::judge(image));
-        let kept = image.clone();
         ledger.count(expected.number);
-        let got = unsafe { judge(pointer(image, case % 2 == 0), image.len()) };
-        let call = || format!("image {case}");
-        ledger.same(got, expected, call);
-        ledger.holds(*image == kept, "the table's bytes were changed", call);
+        let outcome = desk.judge(lend(image, case % 2 == 0));
+        ledger.same(outcome, expected, || format!("image {case}"))?;
     }
-    Some(ledger)
+    Ok(())
 }
 
-pub fn read_table(desk: &Desk, stage: &Stage) -> Option<Ledger> {
-    let read_table = desk.read_table?;
-    let mut ledger = Ledger::default();
+pub fn read_table(desk: &mut dyn Desk, stage: &Stage, ledger: &mut Ledger) -> Result<(), Failure> {
     for (case, image) in stage.images.iter().enumerate() {
         let right = match blocks::judge(image) {
             Ok(table) => table.coefficients.len(),
@@ -38,65 +31,55 @@ pub fn read_table(desk: &Desk, stage: &Stage) -> Option<Ledger> {
             let expected = blocks::read(image, length);
             let answer = TableAnswer::from(&expected);
             let null = case % 2 == 0;
-            let mut list = lent_ticks(length);
-            let kept = image.clone();
+            let mut list = blank_ticks(length);
             ledger.count(answer.number);
-            let got = unsafe {
-                let (table, list) = (pointer(image, null), list.pointer(null));
-                read_table(table, image.len(), list, length)
-            };
+            let outcome = desk.read_table(lend(image, null), lend_mut(&mut list, null));
             let call = || format!("image {case} into {length} coefficients");
-            ledger.same(got, answer, call);
-            ledger.holds(*image == kept, "the table's bytes were changed", call);
-            let list_right = match &expected {
-                Ok(table) => list.is_exactly(&table.coefficients),
-                Err(_) => list.is_as_it_was(),
+            ledger.same(outcome, answer, call)?;
+            let right = match expected {
+                Ok(table) => table.coefficients,
+                Err(_) => blank_ticks(length),
             };
-            ledger.holds(list_right, "the lent list is not as it should be", call);
+            ledger.holds(list == right, "the lent list is not as it should be", call);
         }
     }
-    Some(ledger)
+    Ok(())
 }
 
-pub fn write_table(desk: &Desk, stage: &Stage) -> Option<Ledger> {
-    let write_table = desk.write_table?;
+pub fn write_table(desk: &mut dyn Desk, stage: &Stage, ledger: &mut Ledger) -> Result<(), Failure> {
     let mut random = Random::new(stage.seed ^ 0x77);
-    let mut ledger = Ledger::default();
     for table in &stage.accepted {
         let size = blocks::image(table).len();
         for length in [size, size - 1, size + 1, size - BLOCK, size + BLOCK, 0] {
-            write_one(&mut ledger, write_table, table, length);
+            write_one(ledger, desk, table, length)?;
         }
         for changed in changed_tables(&mut random, table) {
             let fitting = blocks::blocks_needed(changed.count) as usize * BLOCK;
             // A count near 2^32 would want gigabytes; it gets a small buffer.
-            write_one(&mut ledger, write_table, &changed, fitting.min(200 * BLOCK));
+            write_one(ledger, desk, &changed, fitting.min(200 * BLOCK))?;
         }
     }
-    Some(ledger)
+    Ok(())
 }
 
-fn write_one(ledger: &mut Ledger, write_table: WriteTable, table: &Table, length: usize) {
+fn write_one(
+    ledger: &mut Ledger,
+    desk: &mut dyn Desk,
+    table: &Table,
+    length: usize,
+) -> Result<(), Failure> {
     let expected = blocks::write(table, length);
     let nothing = Converted { tick: 0, steps: 0 };
     let answer = Answer::from(expected.as_ref().map(|_| nothing).map_err(|r: &Refusal| *r));
     let null = ledger.cases.is_multiple_of(2);
-    let mut image = lent_bytes(length);
-    let list = &table.coefficients;
-    let kept = list.clone();
+    let mut image = blank_bytes(length);
     ledger.count(answer.number);
-    let got = unsafe {
-        write_table(
-            table.start,
-            table.length,
-            table.count,
-            table.degree,
-            pointer(list, null),
-            list.len(),
-            image.pointer(null),
-            length,
-        )
-    };
+    let outcome = desk.write_table(
+        (table.start, table.length),
+        (table.count, table.degree),
+        lend(&table.coefficients, null),
+        lend_mut(&mut image, null),
+    );
     let call = || {
         let Table {
             start,
@@ -108,17 +91,14 @@ fn write_one(ledger: &mut Ledger, write_table: WriteTable, table: &Table, length
         let coefficients = table.coefficients.len();
         format!("S {start} H {h} G {count} n {degree}, {coefficients} coefficients, {length} bytes")
     };
-    ledger.same(got, answer, call);
+    ledger.same(outcome, answer, call)?;
+    let right = expected.unwrap_or_else(|_| blank_bytes(length));
     ledger.holds(
-        *list == kept,
-        "the coefficients lent to read were changed",
+        image == right,
+        "the lent image is not as it should be",
         call,
     );
-    let image_right = match &expected {
-        Ok(bytes) => image.is_exactly(bytes),
-        Err(_) => image.is_as_it_was(),
-    };
-    ledger.holds(image_right, "the lent image is not as it should be", call);
+    Ok(())
 }
 
 /// The table with one number changed: at and past every bound, and lists that

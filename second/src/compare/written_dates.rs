@@ -1,15 +1,13 @@
 //! The comparison of writing a tick as a date.
 
-use super::interface::{Date, Desk};
+use super::interface::{Date, Desk, Failure};
 use super::ledger::Ledger;
 use super::stage::Stage;
 use crate::dates;
 use crate::generate::{Random, edge_ticks, random_tick};
 
-pub fn write_date(desk: &Desk, stage: &Stage) -> Option<Ledger> {
-    let write_date = desk.write_date?;
+pub fn write_date(desk: &mut dyn Desk, stage: &Stage, ledger: &mut Ledger) -> Result<(), Failure> {
     let mut random = Random::new(stage.seed ^ 0xda7e);
-    let mut ledger = Ledger::default();
     let mut ticks = edge_ticks();
     ticks.extend(day_ends(&mut random));
     let many = stage.size.tables * stage.size.conversions;
@@ -17,10 +15,9 @@ pub fn write_date(desk: &Desk, stage: &Stage) -> Option<Ledger> {
     for tick in ticks {
         let expected = Date::from(dates::write_date(tick));
         ledger.count(expected.number);
-        let got = unsafe { write_date(tick) };
-        ledger.same(got, expected, || format!("tick {tick}"));
+        ledger.same(desk.write_date(tick), expected, || format!("tick {tick}"))?;
     }
-    Some(ledger)
+    Ok(())
 }
 
 /// Ticks on both sides of a Julian date ending in .5.
