@@ -19,6 +19,8 @@
 -- An `i64` of the code: `Machine` (that a number fits, what a test leaves, tests that say the same, >> as a floor). The bits of a number that fits read back
 -- as it: `read-is`.
 --
+-- The lowest place at which a test fails, a test of every place, a list by its places: `Places`. Two tests in one: `Flags`.
+--
 -- The Chebyshev polynomials of the granule rule: `Chebyshev` for their recurrence, size (E-bound, W-bound), ends (E-start, E-end) and other denominators
 -- (E-scale), `Slope` for how far E_k moves when p does.
 pub mod Differences
@@ -29,3 +31,5 @@ pub mod Machine
 pub mod Solver
 pub mod Chebyshev
 pub mod Slope
+pub mod Flags
+pub mod Places

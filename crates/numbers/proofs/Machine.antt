@@ -1,18 +1,20 @@
 -- What an `i64` of the code says of integers: that a number fits and reads back from its bits, what a test of two of them leaves, tests that say the same,
 -- and that >> is a floor. Assumes nothing.
-use mathlib.Core.Path.{_≡_, refl, sym, subst}
+use mathlib.Core.Path.{_≡_, refl, sym, subst, _∙_}
 use mathlib.Core.Bool.{Bool, true, false, not, _&&_}
+use mathlib.Core.Logic.{⊎-elim}
 use Prim.Native.Nat.{ℕ, _^_, _<_, _≤_}
 use native.Mathlib.Omega.{arith}
 use lib.Dec.{T, leb, leb→le, le→leb, lt→ltb, ltb→lt}
-use lib.IntN.{ℤ, pos, negsuc, natAbs, negℤ}
-use lib.Signed.{_≤ℤ_, _<ℤ_, leZ, ltZ, ltZ-no, shrZ}
+use lib.IntN.{ℤ, pos, negsuc, negℤ, natAbs, _-ℤ_, +ℤ-idl}
+use lib.Signed.{_≤ℤ_, _<ℤ_, ltZ, leZ, ltZ-no, shrZ}
+use Rattle.numbers.proofs.Differences.{rep₂, lin, rep}
+use Rattle.numbers.proofs.Order.{≤-total, abs-neg}
 use mir.Syntax.{w64}
 use mir.Val.{SFits, toZ, ofZ}
 use Rattle.numbers.specs.Rounding.{floorDiv}
-use mir.ValLaws.{toZ-ofZ}
+use mir.ValLaws.{toZ-ofZ, toZ-pos}
 use mir.Facts.{and-yes, yes-and}
-use Rattle.numbers.proofs.Differences.{rep, lin}
 
 -- a number below 2^63 either way fits
 pub fits : (z : ℤ) → natAbs z < 2 ^ 63 → SFits w64 z
@@ -29,13 +31,32 @@ lt-no x y e = ltZ-no {a = x} {b = y} (subst (λ (b : Bool). T (not b)) (sym e) t
 pub le-yes : (x y : ℤ) → leZ x y ≡ true → x ≤ℤ y
 le-yes x y e = record { le = subst T (sym e) tt }
 
+pub clash : (x y : ℤ) → x <ℤ y → y ≤ℤ x → ⊥
+clash = rep₂ _ (λ a b c d. simp lin (omega arith))
+
+pub is-true : (b : Bool) → T b → b ≡ true
+is-true true t = refl
+is-true false t = absurd t
+
+is-false : (b : Bool) → (T b → ⊥) → b ≡ false
+is-false true n = absurd (n tt)
+is-false false n = refl
+
 -- ---- and the test's value, from what holds
 pub yes-le : (x y : ℤ) → x ≤ℤ y → leZ x y ≡ true
 yes-le x y h = is-true (leZ x y) (h .le)
-  where
-    is-true : (b : Bool) → T b → b ≡ true
-    is-true true t = refl
-    is-true false t = absurd t
+
+pub yes-lt : (x y : ℤ) → x <ℤ y → ltZ x y ≡ true
+yes-lt x y h = is-true (ltZ x y) (h .lt)
+
+pub no-lt : (x y : ℤ) → y ≤ℤ x → ltZ x y ≡ false
+no-lt x y h = is-false (ltZ x y) (λ t. clash x y (record { lt = t }) h)
+
+pub no-le : (x y : ℤ) → y <ℤ x → leZ x y ≡ false
+no-le x y h = is-false (leZ x y) (λ t. clash y x h (record { le = t }))
+
+pub le-no : (x y : ℤ) → leZ x y ≡ false → y <ℤ x
+le-no x y e = ⊎-elim (λ (h : x ≤ℤ y). let z : _≡_ {A = ℕ} 0 1 = cc (yes-le x y h) in let never : ⊥ = omega arith in absurd never) (λ (h : y <ℤ x). h) (≤-total x y)
 
 -- ---- z >> k is the floor of z / 2^k
 pub shr-floor : (z : ℤ) (d : ℕ) → shrZ z d ≡ floorDiv z d
@@ -90,3 +111,14 @@ pub size-test : (n : ℕ) (z : ℤ) → (leZ (negℤ (pos n)) z && leZ z (pos n)
 size-test n z = same-test (leZ (negℤ (pos n)) z && leZ z (pos n)) (leb (natAbs z) n)
     (λ t. let b = and-yes (leZ (negℤ (pos n)) z) (leZ z (pos n)) t in le→leb (natAbs z) n (size-both n z (record { le = b .0 }) (record { le = b .1 })))
     (λ t. let h = leb→le (natAbs z) n t in yes-and (leZ (negℤ (pos n)) z) (leZ z (pos n)) (size-low n z h .le) (size-high n z h .le))
+
+-- ---- −n, for an n that the code has as a `u64`: `-(n as i64)`
+module _ (n : ℕ) (h : n < 2 ^ 63) where
+  minus-read : pos 0 -ℤ toZ w64 n ≡ negℤ (pos n)
+  minus-read = rw (toZ-pos w64 n h) (+ℤ-idl (negℤ (pos n)))
+
+  pub minus-fits : SFits w64 (pos 0 -ℤ toZ w64 n)
+  minus-fits = rw minus-read (fits (negℤ (pos n)) (omega (arith, abs-neg (pos n))))
+
+  pub minus-is : toZ w64 (ofZ w64 (pos 0 -ℤ toZ w64 n)) ≡ negℤ (pos n)
+  minus-is = toZ-ofZ w64 _ minus-fits ∙ minus-read

@@ -13,7 +13,6 @@ use Rattle.numbers.proofs.Order.{*-mono, abs-*}
 use Rattle.numbers.proofs.Rounding.{nearest-order, within-half}
 use Rattle.scales.specs.declared.linear.Line.{Line}
 use Rattle.scales.specs.declared.linear.Line.the-variants.{GpsToTai, TaiToGps, TaiToTt, TtToTai, TtToTcg, TcgToTt, TdbToTcb, TcbToTdb}
-use Rattle.scales.specs.declared.tick.Ticked.{Ticked}
 use Rattle.scales.specs.declared.tick.Ticked.the-variants.{At, Outside}
 use Rattle.scales.specs.Tick.{isValid, kept}
 use Rattle.scales.specs.Linear.{Linear, inverse, exact, nearestTick, step}

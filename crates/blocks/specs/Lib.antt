@@ -1,0 +1,5 @@
+pub mod Answers
+pub mod Bounds
+pub mod Tests
+pub mod Judging
+pub mod Pass

@@ -1,0 +1,71 @@
+-- `image::put::body_byte` meets its contract. Assumes nothing.
+use Rattle.image.proofs.Slots.{free-zero, free-more}
+use Rattle.image.specs.Form.{isFree, isNumber, isCoefficient}
+use Rattle.image.specs.Image.{bodyByte}
+use borrow.Author.Needs.{needs}
+use borrow.Author.Tests.{eq-eqb, ne-eqb}
+use mathlib.Core.Bool.{true, false}
+use mathlib.Core.Path.{_≡_, sym, _∙_}
+use native.Mathlib.Omega.{arith}
+use Rattle.image.proofs.put.body_byte.Statement.{statement}
+use Rattle.image.proofs.put.body_byte.Tie as tie
+
+number : (c : tie.Then2) → isNumber (c .before .before .before .before .before .args .j) ≡ true
+number c =
+    let s = c .before .before .before .before .before .args in
+    sym (free-zero (s .table .count) (s .table .degree) _ _ (c .if2 .taken)) ∙ sym (c .before .before .is-free .ensures) ∙ c .before .if1 .taken
+
+coefficient : (c : tie.Else2) → isCoefficient (c .before .before .before .before .before .args .table .count) (c .before .before .before .before .before .args .table .degree) (c .before .before .before .before .before .args .k) (c .before .before .before .before .before .args .j) ≡ true
+coefficient c = sym (free-more _ _ _ _ (c .if2 .left)) ∙ sym (c .before .before .is-free .ensures) ∙ c .before .if1 .taken
+
+free : (c : tie.Then1) → isFree (c .before .before .before .before .args .table .count) (c .before .before .before .before .args .table .degree) (c .before .before .before .before .args .k) (c .before .before .before .before .args .j) ≡ true
+free c = sym (c .before .is-free .ensures) ∙ c .if1 .taken
+
+fixed : (c : tie.Else1) → isFree (c .before .before .before .before .args .table .count) (c .before .before .before .before .args .table .degree) (c .before .before .before .before .args .k) (c .before .before .before .before .args .j) ≡ false
+fixed c = sym (c .before .is-free .ensures) ∙ c .if1 .left
+
+cast-count : tie.Need-cast-count
+cast-count c = search needs
+
+cast-degree : tie.Need-cast-degree
+cast-degree c = search needs
+
+is-free-requires : tie.Need-is-free-requires
+is-free-requires c κs = search needs
+
+number-byte-requires : tie.Need-number-byte-requires
+number-byte-requires c κs = (number c, c .before .before .before .before .before .pre .0 .degree)
+
+returns : tie.Need-returns
+unfolding bodyByte
+returns c = rw (free (c .before .before), eq-eqb _ _ (c .before .if2 .taken)) (c .number-byte .ensures)
+
+coefficient-byte-requires : tie.Need-coefficient-byte-requires
+coefficient-byte-requires c κs =
+    let r = c .before .before .before .before .before .pre in
+    record { within = record { granules = r .0 .granules; degree = r .0 .degree; full = omega arith; place = r .2 }; coefficients = r .0 .coefficients; coefficient = coefficient c; other = omega arith }
+
+returns-2 : tie.Need-returns-2
+unfolding bodyByte
+returns-2 c = rw (free (c .before .before), ne-eqb _ _ (c .before .if2 .left)) (c .coefficient-byte .ensures)
+
+fixed-byte-requires : tie.Need-fixed-byte-requires
+fixed-byte-requires c κs = search needs
+
+returns-3 : tie.Need-returns-3
+unfolding bodyByte
+returns-3 c = rw (fixed (c .before)) (c .fixed-byte .ensures)
+
+pub body-byte-spec : {M : Type 1} → statement M
+body-byte-spec =
+    tie.close
+    (tie.spec
+    cast-count
+    cast-degree
+    is-free-requires
+    number-byte-requires
+    returns
+    coefficient-byte-requires
+    returns-2
+    fixed-byte-requires
+    returns-3)

@@ -1,0 +1,107 @@
+-- `image::take::stored` meets its contract. Each coefficient taken so far is the one stored there. Assumes nothing.
+use Prim.Native.Nat.{ℕ, _+_, _-_, _≤_, _<_, zero-le}
+use Rattle.numbers.proofs.Places.{is-upTo}
+use Rattle.image.proofs.Slots.{stored-fits}
+use Rattle.image.proofs.Stores.{not-same}
+use Rattle.image.specs.Image.{placeOf, coefficientAt, storedOf}
+use borrow.Author.Count.{below-none, below-more}
+use lib.IntN.{pos}
+use lib.ListN.{length, getD, set, length-set}
+use lib.Seq.{getD-set-same, getD-set-other}
+use mathlib.Core.Path.{_≡_, refl, _∙_}
+use mir.Syntax.{w64}
+use mir.ValLaws.{toZ-ofZ}
+use native.Mathlib.Omega.{arith}
+use Rattle.image.proofs.take.stored.Statement.{statement}
+use Rattle.image.proofs.take.stored.Tie as tie
+
+abbrev Inv-loop : tie.InvT-loop
+Inv-loop bytes granule coefficients₀ m₀ coefficients m = (m ≤ 16) × (length coefficients ≡ 16) × ((j : ℕ) → j < m → getD coefficients j (pos 0) ≡ coefficientAt bytes granule j)
+
+abbrev μ-loop : tie.MeasureT-loop
+μ-loop bytes granule coefficients₀ m₀ coefficients m = 16 - m
+
+here : (c : tie.In-loop Inv-loop μ-loop) → placeOf (c .before .before .before .args .granule) (c .before .loop .m) + 8 ≤ length (c .before .before .before .args .bytes .now)
+here c =
+    let s = c .before .before .before in
+    stored-fits (s .args .granule) (c .before .loop .m) _ (omega arith) (s .pre .long)
+
+loop-holds : tie.Need-loop-holds Inv-loop μ-loop
+loop-holds c = (zero-le, refl, below-none _)
+
+add-number-at : tie.Need-add-number-at Inv-loop μ-loop
+add-number-at c = let r = here c in let f = c .before .before .before .pre .few in omega arith
+
+mul-number-at : tie.Need-mul-number-at Inv-loop μ-loop
+mul-number-at c = let r = here c in let f = c .before .before .before .pre .few in omega arith
+
+mul-number-at-2 : tie.Need-mul-number-at-2 Inv-loop μ-loop
+mul-number-at-2 c = let r = here c in let f = c .before .before .before .pre .few in omega arith
+
+add-number-at-2 : tie.Need-add-number-at-2 Inv-loop μ-loop
+add-number-at-2 c = let r = here c in let f = c .before .before .before .pre .few in omega arith
+
+mul-number-at-3 : tie.Need-mul-number-at-3 Inv-loop μ-loop
+mul-number-at-3 c = let r = here c in let f = c .before .before .before .pre .few in omega arith
+
+add-number-at-3 : tie.Need-add-number-at-3 Inv-loop μ-loop
+add-number-at-3 c = let r = here c in let f = c .before .before .before .pre .few in omega arith
+
+add-number-at-4 : tie.Need-add-number-at-4 Inv-loop μ-loop
+add-number-at-4 c = let r = here c in let f = c .before .before .before .pre .few in omega arith
+
+number-at-requires : tie.Need-number-at-requires Inv-loop μ-loop
+number-at-requires c κs = here c
+
+mul-coefficients : tie.Need-mul-coefficients Inv-loop μ-loop
+mul-coefficients c = omega arith
+
+array-set-from-coefficients : tie.Need-array-set-from-coefficients Inv-loop μ-loop
+array-set-from-coefficients c = omega arith
+
+add-m : tie.Need-add-m Inv-loop μ-loop
+add-m c = omega arith
+
+loop-less : tie.Need-loop-less Inv-loop μ-loop
+loop-less c = omega arith
+
+loop-again : tie.Need-loop-again Inv-loop μ-loop
+unfolding coefficientAt
+loop-again c =
+    let l = c .before .before .loop in
+    let s = c .before .before .before .before .args in
+    let z = c .number-at .result in (
+      omega arith,
+      simp length-set (l .inv .1),
+      below-more (λ j. getD (set (l .coefficients) (l .m) _) j (pos 0) ≡ coefficientAt (s .bytes .now) (s .granule) j) (l .m)
+          (λ j h. getD-set-other (l .coefficients) (l .m) j _ (pos 0) (not-same h) ∙ l .inv .2 j h)
+          (getD-set-same (l .coefficients) (l .m) _ (pos 0) (omega arith) ∙ toZ-ofZ w64 z (record { sfits = c .number-at .ok }) ∙ c .number-at .ensures),
+    )
+
+returns : tie.Need-returns Inv-loop μ-loop
+unfolding storedOf
+returns c =
+    let l = c .before .loop in
+    is-upTo _ 16 (pos 0) _ (l .inv .1) (λ i h. l .inv .2 i (omega arith))
+
+pub stored-spec : {M : Type 1} → statement M
+stored-spec =
+    tie.close
+    (tie.spec
+    Inv-loop
+    μ-loop
+    loop-holds
+    add-number-at
+    mul-number-at
+    mul-number-at-2
+    add-number-at-2
+    mul-number-at-3
+    add-number-at-3
+    add-number-at-4
+    number-at-requires
+    mul-coefficients
+    array-set-from-coefficients
+    add-m
+    loop-less
+    loop-again
+    returns)

@@ -1,0 +1,129 @@
+-- `image::take::take_coefficients` meets its contract. Each coefficient taken so far is the one stored for its granule. Assumes nothing.
+use Prim.Native.Nat.{ℕ, _+_, _*_, _-_, _/_, _%_, _≤_, _<_, zero-le}
+use Rattle.numbers.proofs.Places.{is-upTo}
+use Rattle.image.proofs.Slots.{place-fits}
+use Rattle.image.proofs.Stores.{not-same}
+use Rattle.image.specs.Image.{blocksOf, placeOf, coefficientAt, coefficientsOf}
+use borrow.Author.Count.{below-none, below-more}
+use borrow.Author.Needs.{needs}
+use lib.IntN.{pos}
+use lib.ListN.{length, getD, set, length-set}
+use lib.Seq.{getD-set-same, getD-set-other}
+use mathlib.Core.Path.{_≡_, refl, _∙_}
+use mir.Syntax.{w64}
+use mir.ValLaws.{toZ-ofZ}
+use native.Mathlib.Omega.{arith}
+use Rattle.image.proofs.take.take_coefficients.Statement.{statement}
+use Rattle.image.proofs.take.take_coefficients.Tie as tie
+
+abbrev Inv-loop : tie.InvT-loop
+Inv-loop bytes count degree coefficients₀ i₀ coefficients i = (i ≤ length coefficients) × (length coefficients ≡ length coefficients₀) × ((j : ℕ) → j < i → getD coefficients j (pos 0) ≡ coefficientAt bytes (j / (degree + 1)) (j % (degree + 1)))
+
+abbrev μ-loop : tie.MeasureT-loop
+μ-loop bytes count degree coefficients₀ i₀ coefficients i = length coefficients₀ - i
+
+room : (c : tie.In-loop Inv-loop μ-loop) → placeOf (c .before .loop .i / (c .before .before .before .args .degree + 1)) (c .before .loop .i % (c .before .before .before .args .degree + 1)) + 8 ≤ blocksOf (c .before .before .before .args .count) * 512
+room c =
+    let s = c .before .before .before in
+    place-fits (s .args .count) (s .args .degree) (c .before .loop .i) (s .pre .degree) (omega arith)
+
+loop-holds : tie.Need-loop-holds Inv-loop μ-loop
+loop-holds c = (zero-le, refl, below-none _)
+
+add-g : tie.Need-add-g Inv-loop μ-loop
+add-g c = search needs
+
+div-g : tie.Need-div-g Inv-loop μ-loop
+div-g c = search needs
+
+add-m : tie.Need-add-m Inv-loop μ-loop
+add-m c = search needs
+
+rem-m : tie.Need-rem-m Inv-loop μ-loop
+rem-m c = search needs
+
+add-number-at : tie.Need-add-number-at Inv-loop μ-loop
+add-number-at c = let r = room c in omega arith
+
+mul-number-at : tie.Need-mul-number-at Inv-loop μ-loop
+mul-number-at c = let r = room c in omega arith
+
+mul-number-at-2 : tie.Need-mul-number-at-2 Inv-loop μ-loop
+mul-number-at-2 c = search needs
+
+add-number-at-2 : tie.Need-add-number-at-2 Inv-loop μ-loop
+add-number-at-2 c = search needs
+
+mul-number-at-3 : tie.Need-mul-number-at-3 Inv-loop μ-loop
+mul-number-at-3 c = let r = room c in omega arith
+
+add-number-at-3 : tie.Need-add-number-at-3 Inv-loop μ-loop
+add-number-at-3 c = let r = room c in omega arith
+
+add-number-at-4 : tie.Need-add-number-at-4 Inv-loop μ-loop
+add-number-at-4 c = let r = room c in omega arith
+
+number-at-requires : tie.Need-number-at-requires Inv-loop μ-loop
+number-at-requires c κs = rw (c .before .before .before .pre .blocks) (room c)
+
+mul-c : tie.Need-mul-c Inv-loop μ-loop
+mul-c c = search needs
+
+slice-set-from-c : tie.Need-slice-set-from-c Inv-loop μ-loop
+slice-set-from-c c = search needs
+
+add-i : tie.Need-add-i Inv-loop μ-loop
+add-i c = search needs
+
+loop-less : tie.Need-loop-less Inv-loop μ-loop
+loop-less c = omega arith
+
+loop-again : tie.Need-loop-again Inv-loop μ-loop
+unfolding coefficientAt
+loop-again c =
+    let l = c .before .before .loop in
+    let s = c .before .before .before .before .args in
+    let z = c .number-at .result in (
+      simp length-set (omega arith),
+      simp length-set (l .inv .1),
+      below-more (λ j. getD (set (l .coefficients) (l .i) _) j (pos 0) ≡ coefficientAt (s .bytes .now) (j / (s .degree + 1)) (j % (s .degree + 1))) (l .i)
+          (λ j h. getD-set-other (l .coefficients) (l .i) j _ (pos 0) (not-same h) ∙ l .inv .2 j h)
+          (getD-set-same (l .coefficients) (l .i) _ (pos 0) (slice-set-from-c c) ∙ toZ-ofZ w64 z (record { sfits = c .number-at .ok }) ∙ c .number-at .ensures),
+    )
+
+same-length : tie.Need-same-length Inv-loop μ-loop
+same-length c = c .before .loop .inv .1
+
+returns : tie.Need-returns Inv-loop μ-loop
+unfolding coefficientsOf
+returns c =
+    let l = c .before .loop in
+    let s = c .before .before .before in
+    is-upTo _ _ (pos 0) _ (l .inv .1 ∙ s .pre .long) (λ i h. l .inv .2 i (omega arith))
+
+pub take-coefficients-spec : {M : Type 1} → statement M
+take-coefficients-spec =
+    tie.close
+    (tie.spec
+    Inv-loop
+    μ-loop
+    loop-holds
+    add-g
+    div-g
+    add-m
+    rem-m
+    add-number-at
+    mul-number-at
+    mul-number-at-2
+    add-number-at-2
+    mul-number-at-3
+    add-number-at-3
+    add-number-at-4
+    number-at-requires
+    mul-c
+    slice-set-from-c
+    add-i
+    loop-less
+    loop-again
+    same-length
+    returns)

@@ -1,0 +1,5 @@
+pub mod Words
+pub mod Check
+pub mod Form
+pub mod Image
+pub mod Asked

@@ -1,0 +1,150 @@
+// The form of a block: which bytes are free, and what the others are.
+use crate::words::byte_of;
+use crate::words::word_at;
+ghost use mathlib.Core.Path.{_≡_};
+ghost use Prim.Native.Nat.{_*_, _+_, _≤_, _<_};
+ghost use Rattle.image.specs.Words.{block};
+ghost use Rattle.image.specs.Form.{headByte, isNumber, held, isCoefficient, isFree, fixedByte, isFormed};
+ghost use Rattle.numbers.specs.Lowest.{lowest};
+ghost use Rattle.image.specs.Asked.{Within, FreeRun, Inside, RightRun, Search};
+
+// Bytes 0 to 7 of block k.
+fn head_byte(kind: u8, second: u8, k: usize, j: usize) -> u8
+    requires { ⌜ j < 8 ⌝ }
+    ensures { λ r. ⌜ r ≡ headByte kind second k j ⌝ }
+{
+    if j == 0 {
+        return kind;
+    }
+    if j == 1 {
+        return 1;
+    }
+    if j == 2 {
+        return second;
+    }
+    if j == 3 {
+        return 0;
+    }
+    byte_of(k as u64, j - 4)
+}
+
+// Whether byte j of block 0 is one of the table's numbers.
+fn is_number(j: usize) -> bool
+    ensures { λ r. ⌜ r ≡ isNumber j ⌝ }
+{
+    j == 2 || 8 <= j && j < 28
+}
+
+// How many granules block k holds, of a table that has that block: 3, in the last what is left.
+fn held_in(count: usize, k: usize) -> u8
+    requires { ⌜ (count ≤ 360) × (1 ≤ k) × (3 * k < count + 3) ⌝ }
+    ensures { λ r. ⌜ r ≡ held count k ⌝ }
+{
+    if 3 * k < count {
+        return 3;
+    }
+    (count - (3 * k - 3)) as u8
+}
+
+// Whether byte j of block k above 0 is one of a coefficient.
+fn is_coefficient(count: usize, degree: usize, k: usize, j: usize) -> bool
+    requires { ⌜ Within count degree k j × (1 ≤ k) ⌝ }
+    ensures { λ r. ⌜ r ≡ isCoefficient count degree k j ⌝ }
+{
+    if j < 8 {
+        return false;
+    }
+    if j >= 392 {
+        return false;
+    }
+    if 3 * (k - 1) + (j - 8) / 8 / 16 >= count {
+        return false;
+    }
+    (j - 8) / 8 % 16 <= degree
+}
+
+// Whether byte j of block k is free.
+pub fn is_free(count: usize, degree: usize, k: usize, j: usize) -> bool
+    requires { ⌜ Within count degree k j ⌝ }
+    ensures { λ r. ⌜ r ≡ isFree count degree k j ⌝ }
+{
+    if k == 0 {
+        return is_number(j);
+    }
+    is_coefficient(count, degree, k, j)
+}
+
+// What byte j of block k is where it is not free.
+pub fn fixed_byte(count: usize, degree: usize, k: usize, j: usize) -> u8
+    requires { ⌜ Within count degree k j ⌝ }
+    ensures { λ r. ⌜ r ≡ fixedByte count k j ⌝ }
+{
+    if j >= 8 {
+        return 0;
+    }
+    if k == 0 {
+        return head_byte(1, 0, 0, j);
+    }
+    head_byte(2, held_in(count, k), k, j)
+}
+
+// How many bytes from byte j of block k on are known to be free: none where it is fixed. A coefficient's eight bytes are free as a whole.
+fn free_from(count: usize, degree: usize, k: usize, j: usize) -> usize
+    requires { ⌜ Within count degree k j ⌝ }
+    ensures { λ r. ⌜ FreeRun count degree k j r ⌝ }
+{
+    if !is_free(count, degree, k, j) {
+        return 0;
+    }
+    if k == 0 {
+        return 1;
+    }
+    8 - j % 8
+}
+
+// How many bytes from byte j of block k on are known to be right: none where it is wrong. From byte 8 on every fixed byte is zero, so a word of zeros is passed
+// at once.
+fn right_from(bytes: &[u8], count: usize, degree: usize, k: usize, j: usize) -> usize
+    requires { ⌜ Inside (now bytes) count degree k j ⌝ }
+    ensures { λ r. ⌜ RightRun count degree k (block (now (bytes .entry)) k) j r ⌝ }
+{
+    let free = free_from(count, degree, k, j);
+    if free != 0 {
+        return free;
+    }
+    if 8 <= j && j <= 500 {
+        if word_at(bytes, k * 512 + j) == 0 {
+            return 8;
+        }
+    }
+    if bytes[k * 512 + j] != fixed_byte(count, degree, k, j) {
+        return 0;
+    }
+    1
+}
+
+// The lowest block below `blocks` that has a fixed byte wrong, or `blocks`; those below `first` are known to be right.
+pub fn lowest_unformed(
+    bytes: &[u8],
+    count: usize,
+    degree: usize,
+    first: usize,
+    blocks: usize,
+) -> usize
+    requires { ⌜ Search (now bytes) count degree first blocks ⌝ }
+    ensures { λ r. ⌜ r ≡ lowest (λ k. isFormed count degree k (block (now (bytes .entry)) k)) blocks ⌝ }
+{
+    let mut found: usize = blocks;
+    'blocks: for k in first..blocks {
+        let mut j = 0;
+        while j < 508 {
+            let right = right_from(bytes, count, degree, k, j);
+            if right == 0 {
+                found = k;
+                break 'blocks;
+            }
+            j += right;
+        }
+    }
+    found
+}

@@ -1,0 +1,129 @@
+-- Laws of the lowest place, of a test of every place, and of a list by its places. Assumes nothing.
+use mathlib.Core.Path.{_≡_, refl, sym, _∙_, ap, subst}
+use mathlib.Core.Bool.{Bool, true, false, cond}
+use mathlib.Core.List.{List}
+use mathlib.Core.Logic.{⊎-elim}
+use Prim.Native.Nat.{ℕ, zero, suc, _+_, _≤_, _<_, zero-le}
+use native.Mathlib.Nat.{le-of-suc-le-suc, not-suc-le-zero, eq-or-lt-of-le, le-refl, lt-irrefl}
+use native.Mathlib.Omega.{arith}
+use lib.ListN.{length, getD, take}
+use lib.Seq.{ext-getD}
+use Rattle.numbers.specs.Lowest.{lowest, every, upTo}
+use Rattle.numbers.proofs.Flags.{never, both}
+
+suc-le : {n m : ℕ} → n ≤ m → suc n ≤ suc m
+suc-le h = omega arith
+
+-- ---- the lowest place
+-- what a search shows of its end
+pub record First (p : ℕ → Bool) (n r : ℕ) : Type 0 where
+  pub within : r ≤ n
+  pub before : (k : ℕ) → k < r → p k ≡ true
+  pub found : r < n → p r ≡ false
+
+pub first-is : (p : ℕ → Bool) (n r : ℕ) → First p n r → r ≡ lowest p n
+unfolding lowest
+first-is p zero r f = omega (arith, f .within)
+first-is p (suc n) zero f = let e = f .found (suc-le zero-le) in rw e
+first-is p (suc n) (suc r) f =
+    let e = f .before 0 (suc-le zero-le) in
+    rw e
+    (ap suc
+    (first-is (λ i. p (suc i)) n r
+    (record {
+      within = le-of-suc-le-suc (f .within);
+      before = λ k h. f .before (suc k) (suc-le h);
+      found = λ h. f .found (suc-le h);
+    })))
+
+pub lowest-first : (p : ℕ → Bool) (n : ℕ) → First p n (lowest p n)
+unfolding lowest
+lowest-first p zero = record { within = zero-le; before = λ k h. absurd (not-suc-le-zero h); found = λ h. absurd (not-suc-le-zero h) }
+lowest-first p (suc n) = go (p 0) refl (lowest-first (λ i. p (suc i)) n)
+  where
+    back : (r k : ℕ) → p 0 ≡ true → First (λ i. p (suc i)) n r → k < suc r → p k ≡ true
+    back r zero e f h = e
+    back r (suc k) e f h = f .before k (le-of-suc-le-suc h)
+
+    go : (t : Bool) → p 0 ≡ t → First (λ i. p (suc i)) n (lowest (λ i. p (suc i)) n) → First p (suc n) (cond t (suc (lowest (λ i. p (suc i)) n)) 0)
+    go true e f =
+        record { within = suc-le (f .within); before = λ k h. back _ k e f h; found = λ h. f .found (le-of-suc-le-suc h) }
+    go false e f = record { within = zero-le; before = λ k h. absurd (not-suc-le-zero h); found = λ _. e }
+
+-- none fails
+pub none-fails : (p : ℕ → Bool) (n : ℕ) → ((k : ℕ) → k < n → p k ≡ true) → n ≡ lowest p n
+none-fails p n h = first-is p n n (record { within = le-refl n; before = h; found = λ l. absurd (lt-irrefl n l) })
+
+pub all-pass : (p : ℕ → Bool) (n : ℕ) → n ≤ lowest p n → (k : ℕ) → k < n → p k ≡ true
+all-pass p n e k h = lowest-first p n .before k (omega arith)
+
+-- one place more: it goes on where none has failed before and this one does not
+module _ (p : ℕ → Bool) (n r : ℕ) (e : r ≡ lowest p n) where
+  pub still : r < n → r ≡ lowest p (n + 1)
+  still h =
+      let f = lowest-first p n in
+      first-is p (n + 1) r (record { within = omega arith; before = λ k l. f .before k (subst (λ (m : ℕ). k < m) e l); found = λ _. ap p e ∙ f .found (omega arith) })
+
+  pub stops-here : n ≤ r → p n ≡ false → r ≡ lowest p (n + 1)
+  stops-here h d =
+      let f = lowest-first p n in
+      let x : r ≡ n = omega (arith, f .within) in
+      first-is p (n + 1) r (record { within = omega arith; before = λ k l. f .before k (subst (λ (m : ℕ). k < m) e l); found = λ _. ap p x ∙ d })
+
+  pub goes-on : n ≤ r → p n ≡ true → r + 1 ≡ lowest p (n + 1)
+  goes-on h d =
+      let f = lowest-first p n in
+      let x : r ≡ n = omega (arith, f .within) in
+      first-is p (n + 1) (r + 1) (record { within = omega arith; before = λ k l. ⊎-elim (λ (y : k ≡ r). ap p (y ∙ x) ∙ d) (λ (y : k < r). f .before k (subst (λ (m : ℕ). k < m) e y)) (eq-or-lt-of-le (under k l)); found = λ l. let z : ⊥ = omega arith in absurd z })
+    where
+      under : (k : ℕ) → k < r + 1 → k ≤ r
+      under k l = omega arith
+
+-- ---- every place
+pub every-is : (p : ℕ → Bool) (n : ℕ) → ((k : ℕ) → k < n → p k ≡ true) → every p n ≡ true
+unfolding every
+every-is p zero h = refl
+every-is p (suc n) h = let e = h n (omega arith) in rw e (every-is p n (λ k l. h k (omega arith)))
+
+pub every-at : (p : ℕ → Bool) (n k : ℕ) → every p n ≡ true → k < n → p k ≡ true
+unfolding every
+every-at p zero k e h = absurd (not-suc-le-zero h)
+every-at p (suc n) k e h =
+    let d = both (p n) (every p n) e in
+    ⊎-elim (λ (x : k ≡ n). ap p x ∙ d .0) (λ (l : k < n). every-at p n k (d .1) l) (eq-or-lt-of-le (le-of-suc-le-suc h))
+
+pub every-not : (p : ℕ → Bool) (n k : ℕ) → k < n → p k ≡ false → every p n ≡ false
+every-not p n k h e = go (every p n) refl
+  where
+    go : (t : Bool) → every p n ≡ t → t ≡ false
+    go true x = never (sym e ∙ every-at p n k x h)
+    go false x = refl
+
+-- ---- a list by its places
+pub upTo-length : {A : Type 0} (f : ℕ → A) (n : ℕ) → length (upTo f n) ≡ n
+unfolding upTo
+upTo-length f zero = refl
+upTo-length f (suc n) = ap suc (upTo-length (λ i. f (suc i)) n)
+
+pub upTo-at : {A : Type 0} (f : ℕ → A) (n i : ℕ) (d : A) → i < n → getD (upTo f n) i d ≡ f i
+unfolding upTo
+upTo-at f zero i d h = absurd (not-suc-le-zero h)
+upTo-at f (suc n) zero d h = refl
+upTo-at f (suc n) (suc i) d h = upTo-at (λ j. f (suc j)) n i d (le-of-suc-le-suc h)
+
+pub is-upTo : {A : Type 0} (f : ℕ → A) (n : ℕ) (d : A) (l : List A) → length l ≡ n → ((i : ℕ) → i < n → getD l i d ≡ f i) → l ≡ upTo f n
+is-upTo f n d l e h = ext-getD d l (upTo f n) (e ∙ sym (upTo-length f n)) (λ i k. h i (subst (λ (m : ℕ). i < m) e k) ∙ sym (upTo-at f n i d (subst (λ (m : ℕ). i < m) e k)))
+
+pub upTo-same : {A : Type 0} (f g : ℕ → A) (n : ℕ) → ((i : ℕ) → i < n → f i ≡ g i) → upTo f n ≡ upTo g n
+unfolding upTo
+upTo-same f g zero e = refl
+upTo-same f g (suc n) e =
+    let p = e 0 (suc-le zero-le) in
+    let r = upTo-same (λ i. f (suc i)) (λ i. g (suc i)) n (λ i h. e (suc i) (suc-le h)) in
+    rw (p, r)
+
+pub take-upTo : {A : Type 0} (f : ℕ → A) (n m : ℕ) → n ≤ m → take n (upTo f m) ≡ upTo f n
+unfolding upTo
+take-upTo f zero m h = refl
+take-upTo f (suc n) zero h = absurd (not-suc-le-zero h)
+take-upTo f (suc n) (suc m) h = rw (take-upTo (λ i. f (suc i)) n m (le-of-suc-le-suc h))

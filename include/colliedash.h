@@ -1,0 +1,59 @@
+/* Colliedash, the timing desk: the functions that a host links (libhosts.a, x86-64).
+
+   A tick is one nanosecond. An epoch is a count of ticks past Julian date 2443144.5003725 as its scale reads it.
+
+   Every function answers every input. An answer's number is 0 where it is accepted, with place and index 0. Otherwise number and place are the refusal's, and
+   every other field is 0; nothing that was lent has been written. A null pointer is allowed where its length is 0.
+
+   number  when                                                              place
+   8       the lent lengths don't fit                                        0
+   10      the bytes are not 2 to 121 whole blocks                           0
+   11      a check is wrong                                                  lowest block
+   12      a kind, edition, number, count or zero byte is wrong              lowest block
+   13      a bound is broken, or the blocks aren't 1 plus G/3 rounded up     0
+   14      a coefficient lies beyond 2^40 either way                         lowest granule
+   15      a weight lies above 2^40 or above H                               lowest granule
+   16      two granules meet with more than 1024 units between them          the later granule */
+#ifndef COLLIEDASH_H
+#define COLLIEDASH_H
+
+#include <stddef.h>
+#include <stdint.h>
+
+#ifdef __cplusplus
+extern "C" {
+#endif
+
+typedef struct {
+    uint32_t number;
+    uint32_t steps;
+    uint64_t place;
+    uint64_t index;
+    int64_t tick;
+} colliedash_answer;
+
+/* A table: its first tick (TT), the length of a granule in ticks, how many granules it has and their degree. */
+typedef struct {
+    uint32_t number;
+    uint32_t count;
+    uint32_t degree;
+    uint64_t place;
+    int64_t start;
+    int64_t length;
+} colliedash_table;
+
+/* The numbers of the table that the bytes hold, or why they hold none. */
+colliedash_table colliedash_judge(const uint8_t *table, size_t table_len);
+
+/* The same, and its count*(degree+1) coefficients, granule by granule, in units of 1/65536 tick. The list must be exactly that long; 8 comes last. */
+colliedash_table colliedash_read_table(const uint8_t *table, size_t table_len, int64_t *coefficients, size_t coefficients_len);
+
+/* Writes a table into an image of exactly (1 + count/3 rounded up)*512 bytes. 8 comes first, then 13 to 16. */
+colliedash_answer colliedash_write_table(int64_t start, int64_t length, uint32_t count, uint32_t degree, const int64_t *coefficients, size_t coefficients_len,
+                                         uint8_t *image, size_t image_len);
+
+#ifdef __cplusplus
+}
+#endif
+
+#endif
