@@ -8,7 +8,7 @@ bytes, little-endian: a narrower one is widened with zeros, a signed one is its
 two's complement, a double is its bits.
 
 A request:
-    function            0: which functions are there? 1 to 8: as listed below
+    function            0: which functions are there? 1 to 12: as listed below
     numbers[4]          the call's plain arguments, in their order; then zeros
     table kind, length  the table; a length counts bytes
     list kind, length   the list lent to read
@@ -56,8 +56,13 @@ MAYBE answer colliedash_convert_ticks(u32, u32, i64, const u8 *, u64);
 MAYBE answer colliedash_convert_date(u32, u32, double, double, const u8 *, u64);
 MAYBE answer colliedash_convert_j2000(u32, u32, double, const u8 *, u64);
 MAYBE answer colliedash_batch(u32, u32, const i64 *, u64, i64 *, u64, const u8 *, u64);
+MAYBE answer colliedash_read_date(double, double);
+MAYBE answer colliedash_read_j2000(double);
+MAYBE answer colliedash_tt_to_tdb(i64, const u8 *, u64);
+MAYBE answer colliedash_tdb_to_tt(i64, const u8 *, u64);
 
-enum { WHICH, JUDGE, READ_TABLE, WRITE_TABLE, WRITE_DATE, TICKS, DATE, J2000, BATCH };
+enum { WHICH, JUDGE, READ_TABLE, WRITE_TABLE, WRITE_DATE, TICKS, DATE, J2000, BATCH,
+       READ_DATE, READ_J2000, TT_TO_TDB, TDB_TO_TT, FUNCTIONS };
 enum { NOTHING, GIVEN, SAME };
 enum { TABLE, LIST, WRITTEN, PLACES };
 /* As long as a block of a table: who writes one block too many is seen. */
@@ -175,7 +180,9 @@ static u64 which(void)
     return (u64)!!colliedash_judge | (u64)!!colliedash_read_table << 1
         | (u64)!!colliedash_write_table << 2 | (u64)!!colliedash_write_date << 3
         | (u64)!!colliedash_convert_ticks << 4 | (u64)!!colliedash_convert_date << 5
-        | (u64)!!colliedash_convert_j2000 << 6 | (u64)!!colliedash_batch << 7;
+        | (u64)!!colliedash_convert_j2000 << 6 | (u64)!!colliedash_batch << 7
+        | (u64)!!colliedash_read_date << 8 | (u64)!!colliedash_read_j2000 << 9
+        | (u64)!!colliedash_tt_to_tdb << 10 | (u64)!!colliedash_tdb_to_tt << 11;
 }
 
 static double as_double(u64 bits)
@@ -219,7 +226,8 @@ static void note_table(u64 *to, table got)
     to[5] = (u64)got.length;
 }
 
-static void call(u64 function, const u64 *n, u64 *to)
+/* The functions that are lent a list, or a buffer to be written. */
+static void call_with_lists(u64 function, const u64 *n, u64 *to)
 {
     const u8 *bytes = loans[TABLE].lent;
     const i64 *list = (const i64 *)loans[LIST].lent;
@@ -227,31 +235,56 @@ static void call(u64 function, const u64 *n, u64 *to)
     i64 *into = (i64 *)image;
     u64 size = loans[TABLE].length, many = loans[LIST].length / 8;
     u64 image_size = loans[WRITTEN].length, room = image_size / 8;
-    u32 first = (u32)n[0], second = (u32)n[1];
-    if (function == WHICH) { to[0] = which(); return; }
-    if (function > BATCH || !(which() >> (function - 1) & 1))
-        stop("the bridge: a function that is not there\n");
     switch (function) {
-    case JUDGE: note_table(to, colliedash_judge(bytes, size)); break;
     case READ_TABLE: note_table(to, colliedash_read_table(bytes, size, into, room)); break;
     case WRITE_TABLE:
         note_answer(to, colliedash_write_table((i64)n[0], (i64)n[1], (u32)n[2], (u32)n[3],
                                                list, many, image, image_size));
         break;
-    case WRITE_DATE: note_date(to, colliedash_write_date((i64)n[0])); break;
+    case BATCH:
+        note_answer(to, colliedash_batch((u32)n[0], (u32)n[1], list, many, into, room,
+                                         bytes, size));
+    }
+}
+
+/* The others: a table at most is lent to them. */
+static void call_plain(u64 function, const u64 *n, u64 *to)
+{
+    const u8 *bytes = loans[TABLE].lent;
+    u64 size = loans[TABLE].length;
+    u32 from = (u32)n[0], into = (u32)n[1];
+    i64 tick = (i64)n[0];
+    switch (function) {
+    case JUDGE: note_table(to, colliedash_judge(bytes, size)); break;
+    case WRITE_DATE: note_date(to, colliedash_write_date(tick)); break;
     case TICKS:
-        note_answer(to, colliedash_convert_ticks(first, second, (i64)n[2], bytes, size));
+        note_answer(to, colliedash_convert_ticks(from, into, (i64)n[2], bytes, size));
         break;
     case DATE:
-        note_answer(to, colliedash_convert_date(first, second, as_double(n[2]), as_double(n[3]),
+        note_answer(to, colliedash_convert_date(from, into, as_double(n[2]), as_double(n[3]),
                                                 bytes, size));
         break;
     case J2000:
-        note_answer(to, colliedash_convert_j2000(first, second, as_double(n[2]), bytes, size));
+        note_answer(to, colliedash_convert_j2000(from, into, as_double(n[2]), bytes, size));
         break;
-    case BATCH:
-        note_answer(to, colliedash_batch(first, second, list, many, into, room, bytes, size));
+    case READ_DATE:
+        note_answer(to, colliedash_read_date(as_double(n[0]), as_double(n[1])));
+        break;
+    case READ_J2000: note_answer(to, colliedash_read_j2000(as_double(n[0]))); break;
+    case TT_TO_TDB: note_answer(to, colliedash_tt_to_tdb(tick, bytes, size)); break;
+    case TDB_TO_TT: note_answer(to, colliedash_tdb_to_tt(tick, bytes, size));
     }
+}
+
+static void call(u64 function, const u64 *n, u64 *to)
+{
+    if (function == WHICH) { to[0] = which(); return; }
+    if (function >= FUNCTIONS || !(which() >> (function - 1) & 1))
+        stop("the bridge: a function that is not there\n");
+    if (function == READ_TABLE || function == WRITE_TABLE || function == BATCH)
+        call_with_lists(function, n, to);
+    else
+        call_plain(function, n, to);
 }
 
 /* One write for each answer: its head and the buffer's bytes together. */

@@ -7,7 +7,9 @@ mod conversions;
 mod interface;
 mod ledger;
 mod own;
+mod readings;
 mod stage;
+mod table_steps;
 mod tables;
 mod written_dates;
 
@@ -40,7 +42,7 @@ impl Comparison {
 
 /// Every comparison there is. A new function adds its line here, its method in
 /// `Desk`, and its number in the bridge.
-pub const COMPARISONS: [Comparison; 8] = [
+pub const COMPARISONS: [Comparison; 12] = [
     Comparison {
         name: "colliedash_judge",
         run: tables::judge,
@@ -72,6 +74,22 @@ pub const COMPARISONS: [Comparison; 8] = [
     Comparison {
         name: "colliedash_batch",
         run: batches::batch,
+    },
+    Comparison {
+        name: "colliedash_read_date",
+        run: readings::read_date,
+    },
+    Comparison {
+        name: "colliedash_read_j2000",
+        run: readings::read_j2000,
+    },
+    Comparison {
+        name: "colliedash_tt_to_tdb",
+        run: table_steps::tt_to_tdb,
+    },
+    Comparison {
+        name: "colliedash_tdb_to_tt",
+        run: table_steps::tdb_to_tt,
     },
 ];
 

@@ -5,6 +5,7 @@ mod broken;
 mod doubles;
 mod lines;
 mod random;
+mod readings;
 mod tables;
 mod ticks;
 
@@ -12,5 +13,6 @@ pub use broken::{Broken, broken_tables, doubly_broken_table};
 pub use doubles::{date_pairs, edge_days, edge_seconds, seconds_past_j2000};
 pub use lines::{hostile_line, input, plain_line};
 pub use random::Random;
+pub use readings::{any_double, read_dates, read_seconds};
 pub use tables::{Shape, accepted_table, accepted_tables};
-pub use ticks::{edge_ticks, random_tick, table_ticks};
+pub use ticks::{edge_ticks, random_tick, table_ticks, tdb_ticks, tt_ticks};

@@ -3,6 +3,7 @@
 
 use second::bridge::Bridge;
 use second::compare::{Answer, Called, Date, Desk, Failure, Outcome, TableAnswer};
+use second::generate::{Random, any_double};
 use std::fs;
 use std::path::{Path, PathBuf};
 use std::process::Command;
@@ -41,7 +42,8 @@ fn built(name: &str, files: &[&str]) -> PathBuf {
     folder.join("bridge")
 }
 
-static WHOLE: LazyLock<PathBuf> = LazyLock::new(|| built("whole", &["tables", "conversions"]));
+static WHOLE: LazyLock<PathBuf> =
+    LazyLock::new(|| built("whole", &["tables", "conversions", "steps"]));
 
 fn started(program: &Path, limit: Duration) -> Bridge {
     let program = program.to_str().unwrap();
@@ -153,6 +155,59 @@ fn conversions_arrive_as_they_were_asked() {
     assert_eq!(answers, [8, -10, 0]);
 }
 
+#[test]
+fn readings_arrive_as_they_were_asked() {
+    let mut bridge = started(&WHOLE, LIMIT);
+    let mut random = Random::new(50);
+    for _ in 0..200 {
+        let (first, second) = (any_double(&mut random), any_double(&mut random));
+        let date = Answer {
+            number: 9,
+            steps: u32::MAX,
+            place: first.to_bits(),
+            index: second.to_bits(),
+            tick: -1,
+        };
+        assert_eq!(clean(bridge.read_date((first, second))), date);
+        let seconds = Answer {
+            number: 10,
+            steps: 0,
+            place: first.to_bits(),
+            index: u64::MAX,
+            tick: 1,
+        };
+        assert_eq!(clean(bridge.read_j2000(first)), seconds);
+    }
+}
+
+#[test]
+fn steps_over_the_table_arrive_as_they_were_asked() {
+    let mut bridge = started(&WHOLE, LIMIT);
+    let answer = |number, null: bool, place, index, tick| Answer {
+        number,
+        steps: null.into(),
+        place,
+        index,
+        tick,
+    };
+    for tick in [i64::MIN, -1, 0, i64::MAX] {
+        let null = clean(bridge.tt_to_tdb(tick, None));
+        assert_eq!(null, answer(11, true, 0, 0, tick));
+        let empty = clean(bridge.tdb_to_tt(tick, Some(&[])));
+        assert_eq!(empty, answer(12, false, 0, 0, tick));
+        // The second of the two is told that the table is the same.
+        let forward = clean(bridge.tt_to_tdb(tick, Some(&[7, 8, 9])));
+        assert_eq!(forward, answer(11, false, 3, 9, tick));
+        let back = clean(bridge.tdb_to_tt(tick, Some(&[7, 8, 9])));
+        assert_eq!(back, answer(12, false, 3, 9, tick));
+    }
+    let changed = ["the table's bytes were changed"];
+    assert_eq!(beside(bridge.tt_to_tdb(0, Some(b"c."))), changed);
+    let written = ["bytes beside the lent table were written"];
+    assert_eq!(beside(bridge.tdb_to_tt(0, Some(b">."))), written);
+    assert_eq!(beside(bridge.tdb_to_tt(0, Some(b"c."))), [""; 0]);
+}
+
 /// What the bridge saw beside the answer.
 #[track_caller]
 fn beside<T>(outcome: Outcome<T>) -> Vec<&'static str> {
@@ -212,4 +267,11 @@ fn an_archive_with_some_of_the_functions_does_too() {
         bridge.batch((0, 0), None, None, None),
         Err(Failure::Missing)
     );
+    assert_eq!(bridge.read_date((0.0, 0.0)), Err(Failure::Missing));
+    assert_eq!(bridge.tdb_to_tt(0, None), Err(Failure::Missing));
+    // Others may have these four and nothing else.
+    let mut bridge = started(&built("steps", &["steps"]), LIMIT);
+    assert_eq!(clean(bridge.read_j2000(0.0)).number, 10);
+    assert_eq!(clean(bridge.tt_to_tdb(0, None)).number, 11);
+    assert_eq!(bridge.judge(None), Err(Failure::Missing));
 }

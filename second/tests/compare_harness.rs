@@ -1,31 +1,14 @@
 //! The harness of `second compare` itself: second's own functions show no
 //! difference, and a planted one is reported.
 
+mod harness;
+
+use harness::{STAGE, changed, compared, is_reported};
 use second::blocks::{BLOCK, image};
-use second::compare::{
-    Answer, COMPARISONS, Called, Date, Desk, Failure, Ledger, Outcome, Own, Size, Stage,
-    TableAnswer,
-};
-use std::sync::LazyLock;
-
-static STAGE: LazyLock<Stage> = LazyLock::new(|| {
-    let size = Size {
-        tables: 64,
-        conversions: 40,
-    };
-    Stage::new(7, size)
-});
-
-fn compared(name: &str, desk: &mut dyn Desk) -> Option<Ledger> {
-    let comparison = COMPARISONS
-        .iter()
-        .find(|c| c.name == name)
-        .expect("a comparison");
-    comparison.run(desk, &STAGE)
-}
+use second::compare::{Answer, Called, Date, Desk, Failure, Outcome, Own, TableAnswer};
 
 /// Every number that each function can give.
-const NUMBERS: [(&str, &[u32]); 8] = [
+const NUMBERS: [(&str, &[u32]); 12] = [
     ("colliedash_judge", &[0, 10, 11, 12, 13, 14, 15, 16]),
     ("colliedash_read_table", &[0, 8, 10, 11, 12, 13, 14, 15, 16]),
     ("colliedash_write_table", &[0, 8, 13, 14, 15, 16]),
@@ -46,6 +29,13 @@ const NUMBERS: [(&str, &[u32]); 8] = [
         "colliedash_batch",
         &[0, 1, 4, 6, 8, 10, 11, 12, 13, 14, 15, 16],
     ),
+    ("colliedash_read_date", &[0, 2, 3, 4]),
+    ("colliedash_read_j2000", &[0, 2, 3, 4]),
+    (
+        "colliedash_tt_to_tdb",
+        &[0, 4, 6, 10, 11, 12, 13, 14, 15, 16],
+    ),
+    ("colliedash_tdb_to_tt", &[0, 6, 10, 11, 12, 13, 14, 15, 16]),
 ];
 
 #[test]
@@ -72,20 +62,6 @@ fn a_missing_function_is_not_compared() {
     for (name, _) in NUMBERS {
         assert!(compared(name, &mut Empty).is_none());
     }
-}
-
-#[track_caller]
-fn is_reported(name: &str, mut desk: impl Desk) {
-    let ledger = compared(name, &mut desk).expect("the function is there");
-    assert!(ledger.different > 0, "{name}");
-    assert!(!ledger.first_differences.is_empty());
-}
-
-/// Changes the answer of a call.
-fn changed<T>(outcome: Outcome<T>, change: impl FnOnce(&mut T)) -> Outcome<T> {
-    let Called { mut answer, beside } = outcome?;
-    change(&mut answer);
-    Ok(Called { answer, beside })
 }
 
 struct JudgeWrongPlace;

@@ -228,6 +228,20 @@ impl Bridge {
         "the bridge closed its output".into()
     }
 
+    /// Calls a function that is lent a table at most.
+    fn plain<T: Wired>(
+        &mut self,
+        function: u64,
+        arguments: Arguments,
+        table: Option<&[u8]>,
+    ) -> Outcome<T> {
+        let loans = Loans {
+            table,
+            ..Loans::default()
+        };
+        Ok(self.call(function, arguments, loans)?.0)
+    }
+
     fn convert(
         &mut self,
         function: u64,
@@ -236,11 +250,7 @@ impl Bridge {
         table: Option<&[u8]>,
     ) -> Outcome<Answer> {
         let arguments = [from.into(), to.into(), reading[0], reading[1]];
-        let loans = Loans {
-            table,
-            ..Loans::default()
-        };
-        Ok(self.call(function, arguments, loans)?.0)
+        self.plain(function, arguments, table)
     }
 }
 
@@ -251,11 +261,7 @@ fn fill<T: Copy>(list: Option<&mut [T]>, content: &[T]) {
 
 impl Desk for Bridge {
     fn judge(&mut self, table: Option<&[u8]>) -> Outcome<TableAnswer> {
-        let loans = Loans {
-            table,
-            ..Loans::default()
-        };
-        Ok(self.call(wire::JUDGE, [0; 4], loans)?.0)
+        self.plain(wire::JUDGE, [0; 4], table)
     }
 
     fn read_table(
@@ -294,7 +300,7 @@ impl Desk for Bridge {
 
     fn write_date(&mut self, tick: i64) -> Outcome<Date> {
         let arguments = [tick.cast_unsigned(), 0, 0, 0];
-        Ok(self.call(wire::WRITE_DATE, arguments, Loans::default())?.0)
+        self.plain(wire::WRITE_DATE, arguments, None)
     }
 
     fn convert_ticks(
@@ -343,5 +349,25 @@ impl Desk for Bridge {
         let (called, written) = self.call(wire::BATCH, arguments, loans)?;
         fill(answers, &wire::ticks_of_bytes(&written));
         Ok(called)
+    }
+
+    fn read_date(&mut self, (first, second): (f64, f64)) -> Outcome<Answer> {
+        let arguments = [first.to_bits(), second.to_bits(), 0, 0];
+        self.plain(wire::READ_DATE, arguments, None)
+    }
+
+    fn read_j2000(&mut self, seconds: f64) -> Outcome<Answer> {
+        let arguments = [seconds.to_bits(), 0, 0, 0];
+        self.plain(wire::READ_J2000, arguments, None)
+    }
+
+    fn tt_to_tdb(&mut self, tick: i64, table: Option<&[u8]>) -> Outcome<Answer> {
+        let arguments = [tick.cast_unsigned(), 0, 0, 0];
+        self.plain(wire::TT_TO_TDB, arguments, table)
+    }
+
+    fn tdb_to_tt(&mut self, tick: i64, table: Option<&[u8]>) -> Outcome<Answer> {
+        let arguments = [tick.cast_unsigned(), 0, 0, 0];
+        self.plain(wire::TDB_TO_TT, arguments, table)
     }
 }

@@ -15,8 +15,8 @@ pub enum Fault {
     Some,
     /// Has no function.
     Empty,
-    /// Has a ninth function.
-    Ninth,
+    /// Has one function more than there are.
+    Unknown,
     Ends,
     EndsInAnswer,
     Silent,
@@ -40,7 +40,7 @@ impl Fault {
         ("none", Fault::None),
         ("some", Fault::Some),
         ("empty", Fault::Empty),
-        ("ninth", Fault::Ninth),
+        ("unknown", Fault::Unknown),
         ("ends", Fault::Ends),
         ("ends-in-answer", Fault::EndsInAnswer),
         ("silent", Fault::Silent),
@@ -61,9 +61,9 @@ impl Fault {
 
     fn functions(self) -> u64 {
         match self {
-            Fault::Some => 1 | 1 << (wire::BATCH - 1),
+            Fault::Some => 1 | 1 << (wire::LAST - 1),
             Fault::Empty => 0,
-            Fault::Ninth => wire::ALL_FUNCTIONS | 1 << wire::BATCH,
+            Fault::Unknown => wire::ALL_FUNCTIONS | 1 << wire::LAST,
             _ => wire::ALL_FUNCTIONS,
         }
     }
@@ -131,24 +131,13 @@ fn fields<T: Wired>(outcome: Outcome<T>) -> io::Result<Fields> {
     }
 }
 
-/// Calls the function. Gives the answer's numbers, and the bytes of the buffer
-/// lent to be written.
-fn call(function: u64, numbers: &[u64], places: &Places) -> io::Result<(Fields, Vec<u8>)> {
+/// Calls a function that is lent a table at most.
+fn call_plain(function: u64, numbers: &[u64], table: Option<&[u8]>) -> io::Result<Fields> {
     let desk = &mut Own;
     let codes = (numbers[0] as u32, numbers[1] as u32);
     let (tick, double) = (u64::cast_signed, f64::from_bits);
-    let table = places.bytes(0);
-    let list = places.ticks(1);
-    let mut image = places.bytes(2).map(<[u8]>::to_vec);
-    let mut into = places.ticks(2);
-    let fields = match function {
+    match function {
         wire::JUDGE => fields(desk.judge(table)),
-        wire::READ_TABLE => fields(desk.read_table(table, into.as_deref_mut())),
-        wire::WRITE_TABLE => {
-            let range = (tick(numbers[0]), tick(numbers[1]));
-            let sizes = (numbers[2] as u32, numbers[3] as u32);
-            fields(desk.write_table(range, sizes, list.as_deref(), image.as_deref_mut()))
-        }
         wire::WRITE_DATE => fields(desk.write_date(tick(numbers[0]))),
         wire::CONVERT_TICKS => fields(desk.convert_ticks(codes, tick(numbers[2]), table)),
         wire::CONVERT_DATE => {
@@ -156,8 +145,34 @@ fn call(function: u64, numbers: &[u64], places: &Places) -> io::Result<(Fields, 
             fields(desk.convert_date(codes, parts, table))
         }
         wire::CONVERT_J2000 => fields(desk.convert_j2000(codes, double(numbers[2]), table)),
-        wire::BATCH => fields(desk.batch(codes, list.as_deref(), into.as_deref_mut(), table)),
+        wire::READ_DATE => fields(desk.read_date((double(numbers[0]), double(numbers[1])))),
+        wire::READ_J2000 => fields(desk.read_j2000(double(numbers[0]))),
+        wire::TT_TO_TDB => fields(desk.tt_to_tdb(tick(numbers[0]), table)),
+        wire::TDB_TO_TT => fields(desk.tdb_to_tt(tick(numbers[0]), table)),
         _ => Err(ErrorKind::InvalidData.into()),
+    }
+}
+
+/// Calls the function. Gives the answer's numbers, and the bytes of the buffer
+/// lent to be written.
+fn call(function: u64, numbers: &[u64], places: &Places) -> io::Result<(Fields, Vec<u8>)> {
+    let desk = &mut Own;
+    let table = places.bytes(0);
+    let list = places.ticks(1);
+    let mut image = places.bytes(2).map(<[u8]>::to_vec);
+    let mut into = places.ticks(2);
+    let fields = match function {
+        wire::READ_TABLE => fields(desk.read_table(table, into.as_deref_mut())),
+        wire::WRITE_TABLE => {
+            let range = (numbers[0].cast_signed(), numbers[1].cast_signed());
+            let sizes = (numbers[2] as u32, numbers[3] as u32);
+            fields(desk.write_table(range, sizes, list.as_deref(), image.as_deref_mut()))
+        }
+        wire::BATCH => {
+            let codes = (numbers[0] as u32, numbers[1] as u32);
+            fields(desk.batch(codes, list.as_deref(), into.as_deref_mut(), table))
+        }
+        _ => call_plain(function, numbers, table),
     }?;
     let written = match function {
         wire::WRITE_TABLE => image,

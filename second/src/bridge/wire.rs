@@ -12,7 +12,12 @@ pub const CONVERT_TICKS: u64 = 5;
 pub const CONVERT_DATE: u64 = 6;
 pub const CONVERT_J2000: u64 = 7;
 pub const BATCH: u64 = 8;
-pub const ALL_FUNCTIONS: u64 = (1 << BATCH) - 1;
+pub const READ_DATE: u64 = 9;
+pub const READ_J2000: u64 = 10;
+pub const TT_TO_TDB: u64 = 11;
+pub const TDB_TO_TT: u64 = 12;
+pub const LAST: u64 = TDB_TO_TT;
+pub const ALL_FUNCTIONS: u64 = (1 << LAST) - 1;
 
 /// How a place is lent.
 pub const NOTHING: u64 = 0;

@@ -20,11 +20,7 @@ fn compare_one(
     let null = ledger.cases.is_multiple_of(2);
     ledger.count(expected.number);
     ledger.same(call(lend(&staged.bytes, null)), expected, || {
-        let table = match &staged.judged {
-            Ok(table) => format!("S {} H {} G {}", table.start, table.length, table.count),
-            Err(refusal) => format!("refused {}", refusal.number),
-        };
-        format!("{from} to {to}, {reading:?}, table {table}")
+        format!("{from} to {to}, {reading:?}, table {}", staged.told())
     })
 }
 

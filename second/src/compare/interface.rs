@@ -39,8 +39,18 @@ impl PartialEq for Date {
     }
 }
 
-/// "number 0 is accepted, with place and index 0. Otherwise number and place
-/// are the refusal's [...]; every other field is 0."
+/// "Otherwise number and place are the refusal's [...]; every other field is 0."
+impl From<Refusal> for Answer {
+    fn from(Refusal { number, place }: Refusal) -> Answer {
+        Answer {
+            number,
+            place,
+            ..Answer::default()
+        }
+    }
+}
+
+/// "number 0 is accepted, with place and index 0."
 impl From<Result<Converted, Refusal>> for Answer {
     fn from(answer: Result<Converted, Refusal>) -> Answer {
         match answer {
@@ -49,12 +59,15 @@ impl From<Result<Converted, Refusal>> for Answer {
                 steps,
                 ..Answer::default()
             },
-            Err(Refusal { number, place }) => Answer {
-                number,
-                place,
-                ..Answer::default()
-            },
+            Err(refusal) => Answer::from(refusal),
         }
+    }
+}
+
+/// A reading by itself: "Reading or writing a date counts no step."
+impl From<Result<i64, Refusal>> for Answer {
+    fn from(epoch: Result<i64, Refusal>) -> Answer {
+        Answer::from(epoch.map(|tick| Converted { tick, steps: 0 }))
     }
 }
 
@@ -68,7 +81,7 @@ impl From<Result<u32, BatchRefusal>> for Answer {
             },
             Err(BatchRefusal { refusal, index }) => Answer {
                 index,
-                ..Answer::from(Err(refusal))
+                ..Answer::from(refusal)
             },
         }
     }
@@ -209,6 +222,22 @@ pub trait Desk {
         answers: Option<&mut [i64]>,
         table: Option<&[u8]>,
     ) -> Outcome<Answer> {
+        Err(Failure::Missing)
+    }
+
+    fn read_date(&mut self, (first, second): (f64, f64)) -> Outcome<Answer> {
+        Err(Failure::Missing)
+    }
+
+    fn read_j2000(&mut self, seconds: f64) -> Outcome<Answer> {
+        Err(Failure::Missing)
+    }
+
+    fn tt_to_tdb(&mut self, tick: i64, table: Option<&[u8]>) -> Outcome<Answer> {
+        Err(Failure::Missing)
+    }
+
+    fn tdb_to_tt(&mut self, tick: i64, table: Option<&[u8]>) -> Outcome<Answer> {
         Err(Failure::Missing)
     }
 }

@@ -5,6 +5,7 @@ use super::interface::{Answer, Date, Desk, Outcome, TableAnswer};
 use crate::blocks;
 use crate::dates::{self, Reading};
 use crate::desk::{self, Converted};
+use crate::scales::Scale;
 use crate::table::Table;
 
 pub struct Own;
@@ -18,6 +19,11 @@ fn convert(codes: (u32, u32), reading: Reading, table: Option<&[u8]>) -> Outcome
     let (from, to) = codes;
     let table = blocks::judge(table.unwrap_or_default());
     Ok(Answer::from(desk::convert(from, to, reading, &table)).into())
+}
+
+fn table_step(from: Scale, to: Scale, tick: i64, table: Option<&[u8]>) -> Outcome<Answer> {
+    let table = blocks::judge(table.unwrap_or_default());
+    Ok(Answer::from(desk::table_step(from, to, tick, &table)).into())
 }
 
 impl Desk for Own {
@@ -107,5 +113,21 @@ impl Desk for Own {
             fill(answers, &batch.ticks);
         }
         Ok(Answer::from(batch.map(|batch| batch.steps)).into())
+    }
+
+    fn read_date(&mut self, (first, second): (f64, f64)) -> Outcome<Answer> {
+        Ok(Answer::from(Reading::TwoPart(first, second).epoch()).into())
+    }
+
+    fn read_j2000(&mut self, seconds: f64) -> Outcome<Answer> {
+        Ok(Answer::from(Reading::SinceJ2000(seconds).epoch()).into())
+    }
+
+    fn tt_to_tdb(&mut self, tick: i64, table: Option<&[u8]>) -> Outcome<Answer> {
+        table_step(Scale::Tt, Scale::Tdb, tick, table)
+    }
+
+    fn tdb_to_tt(&mut self, tick: i64, table: Option<&[u8]>) -> Outcome<Answer> {
+        table_step(Scale::Tdb, Scale::Tt, tick, table)
     }
 }

@@ -18,11 +18,28 @@ pub struct Staged {
     pub ticks: Vec<i64>,
 }
 
+impl Staged {
+    /// The table in a few words, for a difference that is shown.
+    pub fn told(&self) -> String {
+        match &self.judged {
+            Ok(table) => format!("S {} H {} G {}", table.start, table.length, table.count),
+            Err(refusal) => format!("refused {}", refusal.number),
+        }
+    }
+}
+
 /// How much is compared: tables, and conversions for each table.
 #[derive(Clone, Copy, Debug)]
 pub struct Size {
     pub tables: usize,
     pub conversions: usize,
+}
+
+impl Size {
+    /// Dates, seconds or ticks where there is no table.
+    pub fn readings(self) -> usize {
+        self.tables * self.conversions
+    }
 }
 
 pub struct Stage {

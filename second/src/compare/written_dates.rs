@@ -10,8 +10,7 @@ pub fn write_date(desk: &mut dyn Desk, stage: &Stage, ledger: &mut Ledger) -> Re
     let mut random = Random::new(stage.seed ^ 0xda7e);
     let mut ticks = edge_ticks();
     ticks.extend(day_ends(&mut random));
-    let many = stage.size.tables * stage.size.conversions;
-    ticks.extend((0..many).map(|_| random_tick(&mut random)));
+    ticks.extend((0..stage.size.readings()).map(|_| random_tick(&mut random)));
     for tick in ticks {
         let expected = Date::from(dates::write_date(tick));
         ledger.count(expected.number);

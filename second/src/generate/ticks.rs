@@ -1,7 +1,7 @@
 //! Random and edge ticks: range ends, joins, table ends, where D changes.
 
 use super::Random;
-use crate::ephemeris::tdb_from_tt;
+use crate::ephemeris::{tdb_from_tt, tt_from_tdb};
 use crate::scales::{GREATEST_EPOCH, LINEAR_STEPS, is_valid_epoch, linear_step};
 use crate::table::Table;
 
@@ -17,10 +17,10 @@ pub fn random_tick(random: &mut Random) -> i64 {
     }
 }
 
-fn with_neighbours(ticks: &[i64]) -> Vec<i64> {
+fn with_neighbours(ticks: &[i64], distance: i64) -> Vec<i64> {
     ticks
         .iter()
-        .flat_map(|tick| (-2..=2).filter_map(|near| tick.checked_add(near)))
+        .flat_map(|tick| (-distance..=distance).filter_map(|near| tick.checked_add(near)))
         .collect()
 }
 
@@ -46,7 +46,7 @@ pub fn edge_ticks() -> Vec<i64> {
     let twice = across_linear_steps(&ticks);
     ticks.extend(twice);
     ticks.extend([i64::MIN, i64::MAX]);
-    let mut ticks = with_neighbours(&ticks);
+    let mut ticks = with_neighbours(&ticks, 2);
     ticks.sort();
     ticks.dedup();
     ticks
@@ -70,17 +70,25 @@ fn where_d_changes(table: &Table, mut low: i64, mut high: i64) -> Option<i64> {
     Some(high)
 }
 
+/// Joins, both ends of the table, and joins at which the earlier granule would
+/// give another D than the later: there it shows whose tick a join is.
 fn some_joins(random: &mut Random, table: &Table) -> Vec<i64> {
     let join = |g: i64| table.start + g * table.length;
     let count = i64::from(table.count);
     let mut joins = vec![join(0), join(1), join(count - 1), join(count)];
     joins.extend((0..3).map(|_| join(random.between(0, count))));
+    let d = |g: i64, tt| table.granule(g as usize).d(tt);
+    let tells = |g: &i64| d(*g - 1, join(*g)) != d(*g, join(*g));
+    joins.extend((1..count).filter(tells).take(4).map(join));
     joins
 }
 
-/// TT ticks of the table: its ends, joins, places where D changes, and others.
-pub fn table_ticks(random: &mut Random, table: &Table) -> Vec<i64> {
+/// TT ticks of the table: its ends, joins, places where D changes or the TDB
+/// leaves the range, and others. Each with its neighbours, outside the table too.
+pub fn tt_ticks(random: &mut Random, table: &Table) -> Vec<i64> {
     let mut ticks = some_joins(random, table);
+    let range = [-GREATEST_EPOCH, GREATEST_EPOCH];
+    ticks.extend(range.iter().filter_map(|end| tt_from_tdb(table, *end)));
     for _ in 0..6 {
         let low = random.between(table.first_tick(), table.last_tick());
         let near = low + random.up_to(table.last_tick() - low);
@@ -88,13 +96,21 @@ pub fn table_ticks(random: &mut Random, table: &Table) -> Vec<i64> {
         ticks.push(low);
         ticks.extend(where_d_changes(table, low, high));
     }
-    let mut ticks = with_neighbours(&ticks);
-    let tdb: Vec<i64> = ticks
-        .iter()
-        .filter_map(|tt| tdb_from_tt(table, *tt))
-        .collect();
-    // The TDB of a tick, and its neighbours that perhaps no TT gives.
-    ticks.extend(with_neighbours(&tdb));
+    with_neighbours(&ticks, 2)
+}
+
+/// The TDB of these TT ticks, and its neighbours: where D falls by one, no TT
+/// gives the one that is passed over.
+pub fn tdb_ticks(table: &Table, tt: &[i64]) -> Vec<i64> {
+    let tdb: Vec<i64> = tt.iter().filter_map(|tt| tdb_from_tt(table, *tt)).collect();
+    with_neighbours(&tdb, 1)
+}
+
+/// Ticks to convert over the table: TT, TDB, and what these are in every
+/// neighbouring scale.
+pub fn table_ticks(random: &mut Random, table: &Table) -> Vec<i64> {
+    let mut ticks = tt_ticks(random, table);
+    ticks.extend(tdb_ticks(table, &ticks));
     let across = across_linear_steps(&ticks);
     ticks.extend(across);
     ticks.sort();

@@ -1,0 +1,119 @@
+//! The one step over the table by itself: no start to be judged, the table's
+//! refusal first, then 6, then 4.
+
+use second::desk::{Converted, table_step};
+use second::ephemeris::{tdb_from_tt, tt_from_tdb_by_brute_force};
+use second::generate::{Random, accepted_tables, tdb_ticks, tt_ticks};
+use second::refusal::Refusal;
+use second::scales::{GREATEST_EPOCH, Scale};
+use second::table::{Judged, Table};
+
+fn forward(tick: i64, table: &Judged) -> Result<Converted, Refusal> {
+    table_step(Scale::Tt, Scale::Tdb, tick, table)
+}
+
+fn back(tick: i64, table: &Judged) -> Result<Converted, Refusal> {
+    table_step(Scale::Tdb, Scale::Tt, tick, table)
+}
+
+fn stepped(tick: i64) -> Result<Converted, Refusal> {
+    Ok(Converted { tick, steps: 1 })
+}
+
+fn refused<T>(number: u32, place: u64) -> Result<T, Refusal> {
+    Err(Refusal::new(number, place))
+}
+
+const SECOND: i64 = 1_000_000_000;
+
+/// One granule of 10^9 ticks.
+fn granule(start: i64, coefficients: &[i64]) -> Judged {
+    Ok(Table {
+        start,
+        length: SECOND,
+        count: 1,
+        degree: coefficients.len() as u32 - 1,
+        coefficients: coefficients.to_vec(),
+    })
+}
+
+/// The table of P10 and P11.
+fn known() -> Judged {
+    granule(0, &[0, 65_536])
+}
+
+#[test]
+fn the_known_values_one_step_each_way() {
+    assert_eq!(forward(0, &known()), stepped(1));
+    assert_eq!(back(1, &known()), stepped(0));
+    assert_eq!(forward(SECOND, &known()), stepped(SECOND - 1));
+    assert_eq!(back(SECOND - 1, &known()), stepped(SECOND));
+    assert_eq!(forward(250_000_000, &known()), stepped(250_000_000));
+    assert_eq!(back(0, &known()), refused(6, 0));
+    assert_eq!(back(SECOND, &known()), refused(6, 0));
+}
+
+#[test]
+fn outside_the_table_is_6_however_far() {
+    let far = GREATEST_EPOCH + 1;
+    for tick in [-1, SECOND + 1, far, -far, i64::MIN, i64::MAX] {
+        assert_eq!(forward(tick, &known()), refused(6, 0), "{tick}");
+        assert_eq!(back(tick, &known()), refused(6, 0), "{tick}");
+    }
+}
+
+#[test]
+fn the_table_is_told_first_whatever_the_tick() {
+    for (number, place) in [(10, 0), (11, 3), (16, 7)] {
+        let judged = refused(number, place);
+        for tick in [0, i64::MIN, i64::MAX] {
+            assert_eq!(forward(tick, &judged), refused(number, place));
+            assert_eq!(back(tick, &judged), refused(number, place));
+        }
+    }
+}
+
+/// D is 3 or −3 throughout, at an end of the range.
+#[test]
+fn a_tdb_outside_the_range_is_4_forward_and_taken_back() {
+    let end = GREATEST_EPOCH;
+    let first = granule(-end, &[3 * 65_536]);
+    assert_eq!(forward(-end, &first), refused(4, 1));
+    assert_eq!(forward(-end + 2, &first), refused(4, 1));
+    assert_eq!(forward(-end + 3, &first), stepped(-end));
+    assert_eq!(forward(-end - 1, &first), refused(6, 0));
+    assert_eq!(back(-end - 3, &first), stepped(-end));
+    assert_eq!(back(-end - 4, &first), refused(6, 0));
+    let last = granule(end - SECOND, &[-3 * 65_536]);
+    assert_eq!(forward(end, &last), refused(4, 1));
+    assert_eq!(forward(end - 3, &last), stepped(end));
+    assert_eq!(forward(end + 1, &last), refused(6, 0));
+    assert_eq!(back(end + 3, &last), stepped(end));
+    assert_eq!(back(end + 4, &last), refused(6, 0));
+}
+
+/// Against the definition, tick by tick, where the generators ask.
+#[test]
+fn back_is_the_earliest_tick_at_or_after_the_one_asked() {
+    let mut random = Random::new(90);
+    let (mut given, mut between, mut outside) = (0, 0, 0);
+    let small = |table: &Table| table.coefficients.iter().all(|c| c.abs() < 1 << 24);
+    let tables = accepted_tables(&mut random, 160);
+    for table in tables.into_iter().filter(small) {
+        let tt = tt_ticks(&mut random, &table);
+        let asked = tdb_ticks(&table, &tt);
+        let judged = Ok(table.clone());
+        for asked in asked {
+            let earliest = tt_from_tdb_by_brute_force(&table, asked);
+            match earliest.map(|tt| tdb_from_tt(&table, tt)) {
+                None => outside += 1,
+                Some(tdb) if tdb == Some(asked) => given += 1,
+                Some(_) => between += 1,
+            }
+            let expected = earliest.map_or(refused(6, 0), stepped);
+            assert_eq!(back(asked, &judged), expected, "{asked}");
+        }
+    }
+    let met = [given, between, outside];
+    assert!(given > 1_000 && between > 20 && outside > 50, "{met:?}");
+}
