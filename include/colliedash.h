@@ -6,6 +6,7 @@
    every other field is 0; nothing that was lent has been written. A null pointer is allowed where its length is 0.
 
    number  when                                                              place
+   4       the epoch lies outside -6*10^18 .. 6*10^18                        0
    8       the lent lengths don't fit                                        0
    10      the bytes are not 2 to 121 whole blocks                           0
    11      a check is wrong                                                  lowest block
@@ -42,6 +43,14 @@ typedef struct {
     int64_t length;
 } colliedash_table;
 
+/* A Julian date in two parts, in days. */
+typedef struct {
+    uint32_t number;
+    uint64_t place;
+    double first;
+    double second;
+} colliedash_date;
+
 /* The numbers of the table that the bytes hold, or why they hold none. */
 colliedash_table colliedash_judge(const uint8_t *table, size_t table_len);
 
@@ -51,6 +60,9 @@ colliedash_table colliedash_read_table(const uint8_t *table, size_t table_len, i
 /* Writes a table into an image of exactly (1 + count/3 rounded up)*512 bytes. 8 comes first, then 13 to 16. */
 colliedash_answer colliedash_write_table(int64_t start, int64_t length, uint32_t count, uint32_t degree, const int64_t *coefficients, size_t coefficients_len,
                                          uint8_t *image, size_t image_len);
+
+/* A tick as a date: first is the last Julian date ending in .5 not after it, exact; second the part of a day since then, from 0 to below 1. Or refusal 4. */
+colliedash_date colliedash_write_date(int64_t tick);
 
 #ifdef __cplusplus
 }

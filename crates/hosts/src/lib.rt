@@ -2,4 +2,5 @@
 // answer slot is lent, and there is no `requires`. `include/colliedash.h` declares the same.
 pub mod answers;
 pub mod crossing;
+pub mod readings;
 pub mod tables;

@@ -1,0 +1,99 @@
+-- 01's known values of dates, computed over the definitions. `fin negative m e` is the double ±m·2^e. Assumes nothing.
+use mathlib.Core.Path.{_≡_, refl}
+use mathlib.Core.Bool.{Bool, true, false}
+use lib.IntN.{pos, negsuc, negℤ}
+use lib.Ieee.{Float, nan, inf, fin, ofInt, div}
+use lib.Ieee.Scale.{finite}
+use Rattle.numbers.specs.Rounding.{nearest, floorDiv}
+use Rattle.scales.specs.Tick.{isValid}
+use Rattle.dates.specs.declared.reading.Reading.the-variants.{TwoPart, SinceJ2000}
+use Rattle.dates.specs.Doubles.{numerator, denominator, beyond}
+use Rattle.dates.specs.Ticks.{nearestTick, tickOfDate, tickOfSeconds}
+use Rattle.dates.specs.Readings.{inRange, readOf}
+use Rattle.dates.specs.Written.{sinceHalf, dayOf, firstPart, dateOf, writtenOf}
+use Rattle.dates.specs.Answers.{Accepts, Refuses, numberOf, placeOf, tickOf, writtenFirst, writtenNumber, writtenPlace}
+
+-- 0.0, 2443144.5, 2443143.5, 2451545.0, 5000000.0 and -2556855.5
+abbrev zero-days : Float
+zero-days = fin false 0 (pos 0)
+
+abbrev d2443144-5 : Float
+d2443144-5 = fin false 4886289 (negsuc 0)
+
+abbrev d2443143-5 : Float
+d2443143-5 = fin false 4886287 (negsuc 0)
+
+abbrev d2451545 : Float
+d2451545 = fin false 2451545 (pos 0)
+
+abbrev d5000000 : Float
+d5000000 = fin false 78125 (pos 6)
+
+abbrev minus2556855-5 : Float
+minus2556855-5 = fin true 5113711 (negsuc 0)
+
+pub record KnownDates : Type 0 where
+  -- 'P12 (2443144.5, 0) is -32184000000'
+  pub p12 : Accepts (readOf (TwoPart d2443144-5 zero-days)) (negℤ (pos 32184000000))
+  -- 'P13 (2451545, 0) is 725803167816000000'
+  pub p13 : Accepts (readOf (TwoPart d2451545 zero-days)) (pos 725803167816000000)
+  -- '(5000000, -2556855.5) equals P12'
+  pub split : Accepts (readOf (TwoPart d5000000 minus2556855-5)) (negℤ (pos 32184000000))
+  -- 'NaN in either part is 2', with its place
+  pub nanFirst : (second : Float) → Refuses (readOf (TwoPart nan second)) 2 0
+  pub nanSecond : (first : Float) → finite first ≡ true → Refuses (readOf (TwoPart first nan)) 2 1
+
+pub known-dates : KnownDates
+unfolding readOf inRange isValid tickOfDate nearestTick nearest floorDiv numerator denominator beyond numberOf placeOf tickOf
+known-dates = record { p12 = (refl, refl); p13 = (refl, refl); split = (refl, refl); nanFirst = λ second. (refl, refl); nanSecond = λ first h. rw h (refl, refl) }
+
+-- ---- the edges of the rules. The double after 5000000.0 is 2^-30 more, the one after 10^10 is 2^-19 more
+abbrev past5000000 : Float
+past5000000 = fin false 5368709120000001 (negsuc 29)
+
+abbrev tenToTheTen : Float
+tenToTheTen = fin false 9765625 (pos 10)
+
+abbrev pastTenToTheTen : Float
+pastTenToTheTen = fin false 5242880000000001 (negsuc 18)
+
+pub record Edges : Type 0 where
+  -- 'beyond' is strict: 5,000,000 days pass, above, and the next double is 3, in either part
+  pub days : Refuses (readOf (TwoPart past5000000 minus2556855-5)) 3 0
+  pub daysSecond : Refuses (readOf (TwoPart minus2556855-5 past5000000)) 3 1
+  -- 10^10 s pass 3, and 10^19 ticks do not fit 64 bits: 4. The next double is 3
+  pub seconds : Refuses (readOf (SinceJ2000 tenToTheTen)) 4 0
+  pub secondsPast : Refuses (readOf (SinceJ2000 pastTenToTheTen)) 3 0
+  -- '2 over both parts' comes first
+  pub nanPast : Refuses (readOf (TwoPart past5000000 nan)) 2 1
+  pub infinite : (negative : Bool) → Refuses (readOf (SinceJ2000 (inf negative))) 2 0
+  -- -0.0 is zero
+  pub minusZero : Accepts (readOf (SinceJ2000 (fin true 0 (pos 0)))) (pos 725803167816000000)
+  -- 2^-10 s are 976562.5 ticks: 'halves to the greater', before J2000 too
+  pub half : Accepts (readOf (SinceJ2000 (fin false 1 (negsuc 9)))) (pos 725803167816976563)
+  pub halfBefore : Accepts (readOf (SinceJ2000 (fin true 1 (negsuc 9)))) (pos 725803167815023438)
+  -- the smallest double is nothing
+  pub smallest : Accepts (readOf (SinceJ2000 (fin true 1 (negsuc 1073)))) (pos 725803167816000000)
+  -- the midnight before the origin is a date's first part, and a tick earlier the midnight before: the day is rounded down
+  pub midnight : writtenFirst (writtenOf (negℤ (pos 32184000000))) ≡ d2443144-5
+  pub midnightBefore : writtenFirst (writtenOf (negℤ (pos 32184000001))) ≡ d2443143-5
+  -- a tick outside the range is not written
+  pub outside : (writtenNumber (writtenOf (pos 6000000000000000001)) ≡ 4) × (writtenPlace (writtenOf (pos 6000000000000000001)) ≡ 0)
+
+pub edges : Edges
+unfolding readOf inRange isValid tickOfDate tickOfSeconds nearestTick nearest floorDiv numerator denominator beyond numberOf placeOf tickOf writtenOf dateOf firstPart dayOf sinceHalf ofInt div writtenFirst writtenNumber writtenPlace
+edges = record {
+  days = (refl, refl);
+  daysSecond = (refl, refl);
+  seconds = (refl, refl);
+  secondsPast = (refl, refl);
+  nanPast = (refl, refl);
+  infinite = λ negative. (refl, refl);
+  minusZero = (refl, refl);
+  half = (refl, refl);
+  halfBefore = (refl, refl);
+  smallest = (refl, refl);
+  midnight = refl;
+  midnightBefore = refl;
+  outside = (refl, refl);
+}

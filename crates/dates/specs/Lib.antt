@@ -1,0 +1,6 @@
+pub mod Doubles
+pub mod Ticks
+pub mod Readings
+pub mod Written
+pub mod Answers
+pub mod Inner

@@ -1,0 +1,50 @@
+-- 'A reading is a two-part Julian date in days, two doubles; or seconds past J2000, one double; or ticks.'
+use mathlib.Core.Bool.{Bool, cond, not}
+use Prim.Native.Nat.{ℕ}
+use lib.IntN.{ℤ}
+use lib.Ieee.Scale.{finite}
+use Rattle.scales.specs.Tick.{isValid}
+use Rattle.dates.specs.declared.reading.Date.{Date}
+use Rattle.dates.specs.declared.reading.Read.{Read}
+use Rattle.dates.specs.declared.reading.Read.the-variants as R
+use Rattle.dates.specs.declared.reading.Reading.{Reading}
+use Rattle.dates.specs.declared.reading.Reading.the-variants.{TwoPart, SinceJ2000, Ticks}
+use Rattle.dates.specs.Doubles.{beyond}
+use Rattle.dates.specs.Ticks.{tickOfDate, tickOfSeconds}
+
+-- '3: date part beyond 5,000,000 days either way, seconds beyond 10^10'
+abbrev pub mostDays : ℕ
+mostDays = 5000000
+
+abbrev pub mostSeconds : ℕ
+mostSeconds = 10000000000
+
+-- a refusal by its number and the place told
+abbrev pub refusedWith : ℕ → ℕ → Read
+refusedWith number place = R.Refused (record { number = number; place = place })
+
+-- that refusal where the test holds, else what comes after it in the order
+abbrev pub refusing : Bool → ℕ → ℕ → Read → Read
+refusing test number place otherwise = cond test (refusedWith number place) otherwise
+
+-- '4: epoch outside the range at start', 'steps done': none
+unfoldable pub inRange : ℤ → Read
+inRange tick = refusing (not (isValid tick)) 4 0 (R.Tick tick)
+
+-- '2 over both parts, 3 over both parts (the first part first in each), 4'
+unfoldable pub readOf : Reading → Read
+readOf (TwoPart first second) =
+    refusing (not (finite first)) 2 0
+    (refusing (not (finite second)) 2 1
+    (refusing (beyond mostDays first) 3 0
+    (refusing (beyond mostDays second) 3 1
+    (inRange (tickOfDate first second)))))
+readOf (SinceJ2000 seconds) =
+    refusing (not (finite seconds)) 2 0
+    (refusing (beyond mostSeconds seconds) 3 0
+    (inRange (tickOfSeconds seconds)))
+readOf (Ticks tick) = inRange tick
+
+-- a date is read as its two parts
+abbrev pub readOfDate : Date → Read
+readOfDate date = readOf (TwoPart (date .first) (date .second))

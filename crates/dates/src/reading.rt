@@ -1,0 +1,132 @@
+// What a crew sends, read as a tick.
+use crate::limits::beyond_days;
+use crate::limits::beyond_seconds;
+use crate::limits::is_finite;
+use crate::span::Span;
+use crate::span::plus;
+use crate::ticks::ticks_of_days;
+use crate::ticks::ticks_of_seconds;
+use scales::answer::Refusal;
+use scales::tick::valid;
+ghost use mathlib.Core.Path.{_≡_};
+ghost use Rattle.dates.specs.declared.reading.Reading.the-variants as R;
+ghost use Rattle.dates.specs.Readings.{inRange, readOf, readOfDate, refusedWith};
+ghost use Rattle.dates.specs.Inner.{Within, modest, worth};
+
+// 'A reading is a two-part Julian date in days, two doubles; or seconds past J2000, one double; or ticks.'
+pub enum Reading {
+    TwoPart(f64, f64),
+    SinceJ2000(f64),
+    Ticks(i64),
+}
+
+// 'a two-part Julian date in days, two doubles'
+pub struct Date {
+    pub first: f64,
+    pub second: f64,
+}
+
+// What a reading says: a valid tick, or a refusal, which 'carries no tick'.
+pub enum Read {
+    Tick(i64),
+    Refused(Refusal),
+}
+
+// The place told of a date part: 'part, 0 or 1'.
+const FIRST: u64 = 0;
+
+const SECOND: u64 = 1;
+
+fn refused(number: u32, place: u64) -> Read
+    ensures { λ r. ⌜ r ≡ refusedWith number place ⌝ }
+{
+    Read::Refused(Refusal { number, place })
+}
+
+// Refusal 4 outside the range.
+fn ranged(tick: i64) -> Read
+    ensures { λ r. ⌜ r ≡ inRange tick ⌝ }
+{
+    if valid(tick) {
+        return Read::Tick(tick);
+    }
+    refused(4, 0)
+}
+
+// So many seconds and ticks. Beyond 9·10^9 s either way no ticks of a span bring it back into the range, and up to there it fits 64 bits.
+fn placed(span: Span) -> Read
+    requires { ⌜ Within modest span ⌝ }
+    ensures { λ r. ⌜ r ≡ inRange (worth span) ⌝ }
+{
+    let seconds = span.seconds;
+    if seconds > 9_000_000_000 {
+        return refused(4, 0);
+    }
+    if seconds < -9_000_000_000 {
+        return refused(4, 0);
+    }
+    ranged(seconds * 1_000_000_000 + span.ticks)
+}
+
+// Both parts, each to its nearest tick, less Julian date 2443144.5003725, which is 211,087,684,832.184 s.
+fn two_part(first: f64, second: f64) -> Read
+    ensures { λ r. ⌜ r ≡ readOf (R.TwoPart first second) ⌝ }
+{
+    if !is_finite(first) {
+        return refused(2, FIRST);
+    }
+    if !is_finite(second) {
+        return refused(2, SECOND);
+    }
+    if beyond_days(first) {
+        return refused(3, FIRST);
+    }
+    if beyond_days(second) {
+        return refused(3, SECOND);
+    }
+    let sum = plus(ticks_of_days(first), ticks_of_days(second));
+    placed(plus(
+        sum,
+        Span {
+            seconds: -211_087_684_832,
+            ticks: -184_000_000,
+        },
+    ))
+}
+
+// Seconds past J2000, which is 725,803,167.816 s past Julian date 2443144.5003725.
+fn since_j2000(seconds: f64) -> Read
+    ensures { λ r. ⌜ r ≡ readOf (R.SinceJ2000 seconds) ⌝ }
+{
+    if !is_finite(seconds) {
+        return refused(2, 0);
+    }
+    if beyond_seconds(seconds) {
+        return refused(3, 0);
+    }
+    placed(plus(
+        ticks_of_seconds(seconds),
+        Span {
+            seconds: 725_803_167,
+            ticks: 816_000_000,
+        },
+    ))
+}
+
+// The tick of a reading, past Julian date 2443144.5003725, or refusal 2, 3 or 4, in that order.
+pub fn tick_of(reading: Reading) -> Read
+    ensures { λ r. ⌜ r ≡ readOf reading ⌝ }
+{
+    match reading {
+        Reading::TwoPart(first, second) => two_part(first, second),
+        Reading::SinceJ2000(seconds) => since_j2000(seconds),
+        Reading::Ticks(tick) => ranged(tick),
+    }
+}
+
+// The date reader: the same, of a date.
+pub fn read_date(date: Date) -> Read
+    ensures { λ r. ⌜ r ≡ readOfDate date ⌝ }
+{
+    two_part(date.first, date.second)
+}
