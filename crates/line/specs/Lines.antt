@@ -1,0 +1,45 @@
+-- A line's numbers: '`from to tick`, one space between, at most 64 bytes without the newline'.
+use mathlib.Core.Bool.{cond}
+use mathlib.Core.List.{List, [], _∷_, map}
+use mathlib.Core.Option.{Option, some, none}
+use Prim.Native.Nat.{ℕ}
+use lib.Dec.{leb, eqb}
+use lib.IntN.{ℤ, pos, negsuc}
+use lib.ListN.{length}
+use Rattle.line.specs.Numbers.{numberOf}
+use Rattle.line.specs.declared.reading.Line.{Line}
+use Rattle.line.specs.declared.reading.Line.the-variants.{Numbers, Refused}
+
+-- fields with one byte more at the front of the first
+abbrev pub startingWith : ℕ → List (List ℕ) → List (List ℕ)
+startingWith byte [] = (byte ∷ []) ∷ []
+startingWith byte (field ∷ more) = (byte ∷ field) ∷ more
+
+-- a line's fields: it is split at each space, so an extra space, a leading or a trailing one leaves an empty field
+unfoldable pub fields : List ℕ → List (List ℕ)
+fields [] = [] ∷ []
+fields (byte ∷ more) = cond (eqb byte 32) ([] ∷ fields more) (startingWith byte (fields more))
+
+-- refusal '9: text line not understood', place 'line, from 1'
+abbrev pub notUnderstood : ℕ → Line
+notUnderstood line = Refused (record { number = 9; place = line })
+
+-- three numbers, and nothing else
+abbrev pub three : List (Option ℤ) → ℕ → Line
+three [] line = notUnderstood line
+three (none ∷ more) line = notUnderstood line
+three (some from ∷ []) line = notUnderstood line
+three (some from ∷ none ∷ more) line = notUnderstood line
+three (some from ∷ some to ∷ []) line = notUnderstood line
+three (some from ∷ some to ∷ none ∷ more) line = notUnderstood line
+three (some from ∷ some to ∷ some tick ∷ []) line = Numbers from to tick
+three (some from ∷ some to ∷ some tick ∷ extra ∷ more) line = notUnderstood line
+
+-- 'at most 64 bytes'
+unfoldable pub lineOf : List ℕ → ℕ → Line
+lineOf text line = cond (leb (length text) 64) (three (map numberOf (fields text)) line) (notUnderstood line)
+
+-- 'A code outside 0..6 is refusal 1, after 9': the desk's codes are numbers from 0 up, and 7 stands for every other
+abbrev pub codeOf : ℤ → ℕ
+codeOf (pos n) = cond (leb n 6) n 7
+codeOf (negsuc n) = 7
