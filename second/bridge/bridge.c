@@ -8,7 +8,7 @@ bytes, little-endian: a narrower one is widened with zeros, a signed one is its
 two's complement, a double is its bits.
 
 A request:
-    function            0: which functions are there? 1 to 12: as listed below
+    function            0: none, the bridge alone answers; 1 to 8: as listed below
     numbers[4]          the call's plain arguments, in their order; then zeros
     table kind, length  the table; a length counts bytes
     list kind, length   the list lent to read
@@ -22,8 +22,7 @@ An answer:
     seen                what the call did beside its answer: bit 0, changed the
                         table; bit 1, changed the list; bits 2, 3, 4, wrote
                         right before or behind the table, the list, the buffer
-    numbers[6]          the fields of the answer, in their order; then zeros.
-                        Function 0: bit i tells that function i + 1 is there
+    numbers[6]          the fields of the answer, in their order; then zeros
     bytes               of the buffer lent to be written, as they are now
 */
 
@@ -46,23 +45,17 @@ typedef struct { u32 number; u32 steps; u64 place; u64 index; i64 tick; } answer
 typedef struct { u32 number; u64 place; double first; double second; } date;
 typedef struct { u32 number; u32 count; u32 degree; u64 place; i64 start; i64 length; } table;
 
-/* Weak: an archive that has only some of them does too. */
-#define MAYBE __attribute__((weak))
-MAYBE table colliedash_judge(const u8 *, u64);
-MAYBE table colliedash_read_table(const u8 *, u64, i64 *, u64);
-MAYBE answer colliedash_write_table(i64, i64, u32, u32, const i64 *, u64, u8 *, u64);
-MAYBE date colliedash_write_date(i64);
-MAYBE answer colliedash_convert_ticks(u32, u32, i64, const u8 *, u64);
-MAYBE answer colliedash_convert_date(u32, u32, double, double, const u8 *, u64);
-MAYBE answer colliedash_convert_j2000(u32, u32, double, const u8 *, u64);
-MAYBE answer colliedash_batch(u32, u32, const i64 *, u64, i64 *, u64, const u8 *, u64);
-MAYBE answer colliedash_read_date(double, double);
-MAYBE answer colliedash_read_j2000(double);
-MAYBE answer colliedash_tt_to_tdb(i64, const u8 *, u64);
-MAYBE answer colliedash_tdb_to_tt(i64, const u8 *, u64);
+/* All of them: an archive that lacks one makes no bridge. */
+table colliedash_judge(const u8 *, u64);
+table colliedash_read_table(const u8 *, u64, i64 *, u64);
+answer colliedash_write_table(i64, i64, u32, u32, const i64 *, u64, u8 *, u64);
+date colliedash_write_date(i64);
+answer colliedash_convert_ticks(u32, u32, i64, const u8 *, u64);
+answer colliedash_convert_date(u32, u32, double, double, const u8 *, u64);
+answer colliedash_convert_j2000(u32, u32, double, const u8 *, u64);
+answer colliedash_batch(u32, u32, const i64 *, u64, i64 *, u64, const u8 *, u64);
 
-enum { WHICH, JUDGE, READ_TABLE, WRITE_TABLE, WRITE_DATE, TICKS, DATE, J2000, BATCH,
-       READ_DATE, READ_J2000, TT_TO_TDB, TDB_TO_TT, FUNCTIONS };
+enum { NONE, JUDGE, READ_TABLE, WRITE_TABLE, WRITE_DATE, TICKS, DATE, J2000, BATCH, FUNCTIONS };
 enum { NOTHING, GIVEN, SAME };
 enum { TABLE, LIST, WRITTEN, PLACES };
 /* As long as a block of a table: who writes one block too many is seen. */
@@ -175,16 +168,6 @@ static u64 look(void)
     return seen;
 }
 
-static u64 which(void)
-{
-    return (u64)!!colliedash_judge | (u64)!!colliedash_read_table << 1
-        | (u64)!!colliedash_write_table << 2 | (u64)!!colliedash_write_date << 3
-        | (u64)!!colliedash_convert_ticks << 4 | (u64)!!colliedash_convert_date << 5
-        | (u64)!!colliedash_convert_j2000 << 6 | (u64)!!colliedash_batch << 7
-        | (u64)!!colliedash_read_date << 8 | (u64)!!colliedash_read_j2000 << 9
-        | (u64)!!colliedash_tt_to_tdb << 10 | (u64)!!colliedash_tdb_to_tt << 11;
-}
-
 static double as_double(u64 bits)
 {
     double value;
@@ -253,10 +236,9 @@ static void call_plain(u64 function, const u64 *n, u64 *to)
     const u8 *bytes = loans[TABLE].lent;
     u64 size = loans[TABLE].length;
     u32 from = (u32)n[0], into = (u32)n[1];
-    i64 tick = (i64)n[0];
     switch (function) {
     case JUDGE: note_table(to, colliedash_judge(bytes, size)); break;
-    case WRITE_DATE: note_date(to, colliedash_write_date(tick)); break;
+    case WRITE_DATE: note_date(to, colliedash_write_date((i64)n[0])); break;
     case TICKS:
         note_answer(to, colliedash_convert_ticks(from, into, (i64)n[2], bytes, size));
         break;
@@ -266,21 +248,13 @@ static void call_plain(u64 function, const u64 *n, u64 *to)
         break;
     case J2000:
         note_answer(to, colliedash_convert_j2000(from, into, as_double(n[2]), bytes, size));
-        break;
-    case READ_DATE:
-        note_answer(to, colliedash_read_date(as_double(n[0]), as_double(n[1])));
-        break;
-    case READ_J2000: note_answer(to, colliedash_read_j2000(as_double(n[0]))); break;
-    case TT_TO_TDB: note_answer(to, colliedash_tt_to_tdb(tick, bytes, size)); break;
-    case TDB_TO_TT: note_answer(to, colliedash_tdb_to_tt(tick, bytes, size));
     }
 }
 
 static void call(u64 function, const u64 *n, u64 *to)
 {
-    if (function == WHICH) { to[0] = which(); return; }
-    if (function >= FUNCTIONS || !(which() >> (function - 1) & 1))
-        stop("the bridge: a function that is not there\n");
+    if (function == NONE) return;
+    if (function >= FUNCTIONS) stop("the bridge: a function that is not there\n");
     if (function == READ_TABLE || function == WRITE_TABLE || function == BATCH)
         call_with_lists(function, n, to);
     else

@@ -11,37 +11,37 @@ mod readings;
 mod stage;
 mod table_steps;
 mod tables;
+mod trial;
 mod written_dates;
 
-pub use interface::{Answer, Called, Date, Desk, Failure, Outcome, TableAnswer};
+pub use buffers::bytes_of_ticks;
+pub use interface::{Answer, Asked, Called, Date, Desk, Lent, Outcome, Reply, TableAnswer};
 pub use ledger::Ledger;
 pub use own::Own;
 pub use stage::{Size, Stage};
+use trial::Trial;
 
-/// One comparison: the function's name, and how it is compared.
+/// One comparison: the function's name with what it is asked, and how it is
+/// compared.
 pub struct Comparison {
     pub name: &'static str,
-    run: fn(&mut dyn Desk, &Stage, &mut Ledger) -> Result<(), Failure>,
+    run: fn(&Stage, &mut Trial) -> Result<(), String>,
 }
 
 impl Comparison {
-    /// None where the desk lacks the function. A desk that breaks down is a
-    /// difference, and ends the comparison.
-    pub fn run(&self, desk: &mut dyn Desk, stage: &Stage) -> Option<Ledger> {
-        let mut ledger = Ledger::default();
-        match (self.run)(desk, stage, &mut ledger) {
-            Ok(()) => Some(ledger),
-            Err(Failure::Missing) => None,
-            Err(Failure::Lost(what)) => {
-                ledger.differs(|| what);
-                Some(ledger)
-            }
+    /// A desk that breaks down is a difference, and ends the comparison.
+    pub fn run(&self, desk: &mut dyn Desk, stage: &Stage) -> Ledger {
+        let mut trial = Trial::new(desk);
+        let outcome = (self.run)(stage, &mut trial);
+        let mut ledger = trial.ledger;
+        if let Err(why) = outcome {
+            ledger.differs(|| why);
         }
+        ledger
     }
 }
 
-/// Every comparison there is. A new function adds its line here, its method in
-/// `Desk`, and its number in the bridge.
+/// Every comparison there is.
 pub const COMPARISONS: [Comparison; 12] = [
     Comparison {
         name: "colliedash_judge",
@@ -64,54 +64,50 @@ pub const COMPARISONS: [Comparison; 12] = [
         run: conversions::convert_ticks,
     },
     Comparison {
+        name: "colliedash_convert_ticks, TT to TDB",
+        run: table_steps::tt_to_tdb,
+    },
+    Comparison {
+        name: "colliedash_convert_ticks, TDB to TT",
+        run: table_steps::tdb_to_tt,
+    },
+    Comparison {
         name: "colliedash_convert_date",
         run: conversions::convert_date,
+    },
+    Comparison {
+        name: "colliedash_convert_date, the reading alone",
+        run: readings::read_date,
     },
     Comparison {
         name: "colliedash_convert_j2000",
         run: conversions::convert_j2000,
     },
     Comparison {
-        name: "colliedash_batch",
-        run: batches::batch,
-    },
-    Comparison {
-        name: "colliedash_read_date",
-        run: readings::read_date,
-    },
-    Comparison {
-        name: "colliedash_read_j2000",
+        name: "colliedash_convert_j2000, the reading alone",
         run: readings::read_j2000,
     },
     Comparison {
-        name: "colliedash_tt_to_tdb",
-        run: table_steps::tt_to_tdb,
-    },
-    Comparison {
-        name: "colliedash_tdb_to_tt",
-        run: table_steps::tdb_to_tt,
+        name: "colliedash_batch",
+        run: batches::batch,
     },
 ];
 
-/// Runs every comparison that the desk has a function for and prints a line
-/// for each. Gives the number of differences. Each comparison starts a desk of
-/// its own, so that a function that breaks it takes no other one with it.
+/// Runs every comparison and prints a line for each. Gives the number of
+/// differences. Each comparison starts a desk of its own, so that a function
+/// that breaks it takes no other one with it.
 pub fn run(
     start: impl Fn() -> Result<Box<dyn Desk>, String>,
     stage: &Stage,
 ) -> Result<u64, String> {
     let mut different = 0;
     for comparison in &COMPARISONS {
-        match comparison.run(&mut *start()?, stage) {
-            None => println!("{}: not in the archive", comparison.name),
-            Some(ledger) => {
-                println!("{}: {}", comparison.name, ledger.summary());
-                for difference in &ledger.first_differences {
-                    println!("    {difference}");
-                }
-                different += ledger.different;
-            }
+        let ledger = comparison.run(&mut *start()?, stage);
+        println!("{}: {}", comparison.name, ledger.summary());
+        for difference in &ledger.first_differences {
+            println!("    {difference}");
         }
+        different += ledger.different;
     }
     Ok(different)
 }

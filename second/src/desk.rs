@@ -63,16 +63,6 @@ pub fn convert(from: u32, to: u32, reading: Reading, table: &Judged) -> Result<C
     walk(&path, reading.epoch()?, table)
 }
 
-/// The one step between TT and TDB by itself, either way: "the table 10 to 16"
-/// first, then "6 before 4". What is asked is no reading, so that there is no
-/// start whose range could be judged: a TT outside it is outside every table,
-/// and a TDB outside it may still be one that the table's own ticks give.
-pub fn table_step(from: Scale, to: Scale, tick: i64, table: &Judged) -> Result<Converted, Refusal> {
-    let path = [from, to];
-    assert!(crosses_table(&path), "{from:?} to {to:?} has no table");
-    walk(&path, tick, table_for(&path, table)?)
-}
-
 /// An accepted batch: the second list, and the path's steps.
 #[derive(Clone, Debug, PartialEq, Eq)]
 pub struct Batch {

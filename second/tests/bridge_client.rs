@@ -2,7 +2,7 @@
 //! difference, and every fault planted in it is told, in time.
 
 use second::bridge::{Bridge, Fault};
-use second::compare::{COMPARISONS, Desk, Ledger, Own, Size, Stage};
+use second::compare::{Asked, COMPARISONS, Desk, Ledger, Lent, Own, Size, Stage};
 use std::process::{Command, Output};
 use std::sync::LazyLock;
 use std::time::{Duration, Instant};
@@ -18,8 +18,8 @@ static STAGE: LazyLock<Stage> = LazyLock::new(|| {
     Stage::new(11, size)
 });
 
-/// Every function's ledger, with the double that has this fault.
-fn ledgers(fault: &str) -> Vec<Option<Ledger>> {
+/// Every comparison's ledger, with the double that has this fault.
+fn ledgers(fault: &str) -> Vec<Ledger> {
     let run = |comparison: &second::compare::Comparison| {
         let mut bridge = Bridge::start(&[SECOND, "bridge", fault], LIMIT).unwrap();
         comparison.run(&mut bridge, &STAGE)
@@ -30,32 +30,23 @@ fn ledgers(fault: &str) -> Vec<Option<Ledger>> {
 #[test]
 fn the_double_shows_no_difference_and_meets_what_own_functions_meet() {
     for (ledger, comparison) in ledgers("none").iter().zip(&COMPARISONS) {
-        let ledger = ledger.as_ref().expect("the double has every function");
-        let own = comparison.run(&mut Own, &STAGE).unwrap();
+        let own = comparison.run(&mut Own::default(), &STAGE);
         let name = comparison.name;
         assert_eq!(ledger.first_differences, [""; 0], "{name}");
         assert_eq!(ledger.summary(), own.summary(), "{name}");
     }
 }
 
-#[test]
-fn functions_that_are_not_there_are_missing() {
-    let there: Vec<bool> = ledgers("some").iter().map(Option::is_some).collect();
-    let [first, .., last] = there[..] else {
-        panic!("more than two functions")
-    };
-    assert!(first && last);
-    assert_eq!(there.iter().filter(|there| **there).count(), 2);
-}
-
-/// The fault is a difference in each of the named functions' comparisons, and
-/// in none of the others.
+/// The fault is a difference in every comparison of these functions, and in no
+/// other one.
 #[track_caller]
 fn is_told(fault: &str, what: &str, in_functions: &[&str]) {
     for (ledger, comparison) in ledgers(fault).iter().zip(&COMPARISONS) {
-        let ledger = ledger.as_ref().expect("the double has every function");
         let name = comparison.name.trim_start_matches("colliedash_");
-        if in_functions.contains(&name) {
+        if in_functions
+            .iter()
+            .any(|function| name.starts_with(function))
+        {
             let told = ledger.first_differences.first().expect(name);
             assert!(told.contains(what), "{name}: {told}");
         } else {
@@ -64,7 +55,7 @@ fn is_told(fault: &str, what: &str, in_functions: &[&str]) {
     }
 }
 
-const EVERY: [&str; 12] = [
+const EVERY: [&str; 8] = [
     "judge",
     "read_table",
     "write_table",
@@ -73,10 +64,6 @@ const EVERY: [&str; 12] = [
     "convert_date",
     "convert_j2000",
     "batch",
-    "read_date",
-    "read_j2000",
-    "tt_to_tdb",
-    "tdb_to_tt",
 ];
 
 #[test]
@@ -107,10 +94,10 @@ fn a_bridge_that_does_not_answer_is_told_in_time() {
     let begin = Instant::now();
     let limit = Duration::from_millis(300);
     let mut bridge = Bridge::start(&[SECOND, "bridge", "silent"], limit).unwrap();
-    let ledger = COMPARISONS[0].run(&mut bridge, &STAGE).unwrap();
+    let ledger = COMPARISONS[0].run(&mut bridge, &STAGE);
     assert_eq!(ledger.different, 1);
     assert!(ledger.first_differences[0].ends_with("the bridge gave no answer in 300ms"));
-    assert!(bridge.judge(None).is_err());
+    assert!(bridge.call(Asked::Judge, &Lent::default()).is_err());
     assert!(begin.elapsed() < LIMIT);
 }
 
@@ -124,12 +111,6 @@ fn not_started(command: &[&str]) -> String {
 
 #[test]
 fn a_command_that_is_no_bridge_is_told() {
-    let double = |fault| not_started(&[SECOND, "bridge", fault]);
-    assert_eq!(
-        double("empty"),
-        "the archive has no function of the interface"
-    );
-    assert!(double("unknown").contains("functions that nobody knows"));
     assert!(not_started(&["/nonexistent/bridge"]).contains("cannot be started"));
     assert!(not_started(&["false"]).contains("ended early, with exit status: 1"));
     assert!(not_started(&["sh", "-c", "kill -9 $$"]).contains("signal: 9"));
@@ -154,7 +135,7 @@ fn compare(command: &[&str]) -> (Output, String, String) {
 }
 
 #[test]
-fn compare_without_a_command_lists_every_function() {
+fn compare_without_a_command_lists_every_comparison() {
     let (output, out, _) = compare(&[]);
     assert!(output.status.success());
     assert!(out.starts_with("No bridge was named, so nothing was compared.\n"));
@@ -164,7 +145,7 @@ fn compare_without_a_command_lists_every_function() {
 }
 
 #[test]
-fn compare_tells_of_every_function_and_of_differences() {
+fn compare_tells_of_every_comparison_and_of_differences() {
     let (output, out, err) = compare(&[SECOND, "bridge", "ends"]);
     assert_eq!(output.status.code(), Some(1));
     assert_eq!(out.matches("1 differences").count(), 12);

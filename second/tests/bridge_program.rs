@@ -2,7 +2,10 @@
 //! functions tell what they were called with.
 
 use second::bridge::Bridge;
-use second::compare::{Answer, Called, Date, Desk, Failure, Outcome, TableAnswer};
+use second::compare::{
+    Answer, Asked, Called, Date, Desk, Lent, Outcome, Reply, TableAnswer, bytes_of_ticks,
+};
+use second::dates::Reading;
 use second::generate::{Random, any_double};
 use std::fs;
 use std::path::{Path, PathBuf};
@@ -28,8 +31,9 @@ fn succeeds(command: &mut Command) {
     assert!(output.status.success(), "{told}");
 }
 
-/// Builds a bridge with an archive of these C files; gives the program.
-fn built(name: &str, files: &[&str]) -> PathBuf {
+/// Makes an archive of these C files; gives its folder, and the command that
+/// builds a bridge with it there.
+fn archive(name: &str, files: &[&str]) -> (PathBuf, Command) {
     let folder = Path::new(env!("CARGO_TARGET_TMPDIR")).join(name);
     // What an earlier build left there must not be taken for this one's.
     let _ = fs::remove_dir_all(&folder);
@@ -37,62 +41,85 @@ fn built(name: &str, files: &[&str]) -> PathBuf {
     let mut make = Command::new("bash");
     let words = ["-euc", MAKE_ARCHIVE, "make"];
     succeeds(make.args(words).arg(&folder).args(files));
-    let archive = folder.join("archive.a");
-    succeeds(Command::new("bridge/build").arg(archive).arg(&folder));
-    folder.join("bridge")
+    let mut build = Command::new("bridge/build");
+    build.arg(folder.join("archive.a")).arg(&folder);
+    (folder, build)
 }
 
-static WHOLE: LazyLock<PathBuf> =
-    LazyLock::new(|| built("whole", &["tables", "conversions", "steps"]));
+static WHOLE: LazyLock<PathBuf> = LazyLock::new(|| {
+    let (folder, mut build) = archive("whole", &["tables", "conversions"]);
+    succeeds(&mut build);
+    folder.join("bridge")
+});
 
-fn started(program: &Path, limit: Duration) -> Bridge {
-    let program = program.to_str().unwrap();
+fn started(limit: Duration) -> Bridge {
+    let program = WHOLE.to_str().unwrap();
     Bridge::start(&["bridge/run", program], limit).unwrap()
 }
 
-/// The answer of a call that wrote nothing beside it.
+/// What a call did that wrote nothing beside its buffer.
 #[track_caller]
-fn clean<T: std::fmt::Debug>(outcome: Outcome<T>) -> T {
-    let Called { answer, beside } = outcome.expect("an answer");
-    assert_eq!(beside, [""; 0], "{answer:?}");
-    answer
+fn clean(outcome: Outcome) -> (Reply, Vec<u8>) {
+    let called = outcome.expect("an answer");
+    assert_eq!(called.beside, [""; 0], "{called:?}");
+    (called.reply, called.buffer)
 }
 
-fn judged(number: u32, count: u32, degree: u32, place: u64) -> TableAnswer {
+/// What the bridge saw beside the answer.
+#[track_caller]
+fn beside(outcome: Outcome) -> Vec<&'static str> {
+    outcome.expect("an answer").beside
+}
+
+/// Empty lists go as null.
+fn null() -> Lent<'static> {
+    Lent {
+        null: true,
+        ..Lent::default()
+    }
+}
+
+fn judged(number: u32, count: u32, degree: u32, place: u64) -> (Reply, Vec<u8>) {
     let (start, length) = (-1, i64::MIN);
-    TableAnswer {
+    let table = TableAnswer {
         number,
         count,
         degree,
         place,
         start,
         length,
-    }
+    };
+    (Reply::Table(table), vec![])
 }
 
 #[test]
 fn tables_arrive_as_they_were_lent() {
-    let mut bridge = started(&WHOLE, LIMIT);
-    assert_eq!(clean(bridge.judge(None)), judged(1, 0, 0, 0));
-    assert_eq!(clean(bridge.judge(Some(&[]))), judged(0, 0, 0, 0));
-    assert_eq!(clean(bridge.judge(Some(&[7, 8]))), judged(0, 2, 7, 8));
+    let mut bridge = started(LIMIT);
+    let mut judge = |lent: &Lent| clean(bridge.call(Asked::Judge, lent));
+    assert_eq!(judge(&null()), judged(1, 0, 0, 0));
+    assert_eq!(judge(&Lent::table(&[])), judged(0, 0, 0, 0));
+    assert_eq!(judge(&Lent::table(&[7, 8])), judged(0, 2, 7, 8));
     // The same again, a longer one, a null one in between, a shorter one.
-    assert_eq!(clean(bridge.judge(Some(&[7, 8]))), judged(0, 2, 7, 8));
+    assert_eq!(judge(&Lent::table(&[7, 8])), judged(0, 2, 7, 8));
     let mut large = vec![1; 1 << 20];
-    assert_eq!(clean(bridge.judge(Some(&large))), judged(0, 1 << 20, 1, 1));
-    assert_eq!(clean(bridge.judge(None)), judged(1, 0, 0, 0));
+    assert_eq!(judge(&Lent::table(&large)), judged(0, 1 << 20, 1, 1));
+    assert_eq!(judge(&null()), judged(1, 0, 0, 0));
     large[(1 << 20) - 1] = 2;
     for _ in 0..2 {
-        assert_eq!(clean(bridge.judge(Some(&large))), judged(0, 1 << 20, 1, 2));
+        assert_eq!(judge(&Lent::table(&large)), judged(0, 1 << 20, 1, 2));
     }
-    assert_eq!(clean(bridge.judge(Some(&[9]))), judged(0, 1, 9, 9));
+    assert_eq!(judge(&Lent::table(&[9])), judged(0, 1, 9, 9));
+    assert_eq!(judge(&Lent::table(&[])), judged(0, 0, 0, 0));
 }
 
 #[test]
-fn lists_are_read_and_written() {
-    let mut bridge = started(&WHOLE, LIMIT);
-    let mut list = [5, -6, 7];
-    let answer = clean(bridge.read_table(Some(&[1, 2]), Some(&mut list)));
+fn lists_are_written() {
+    let mut bridge = started(LIMIT);
+    let lent = Lent {
+        table: &[1, 2],
+        buffer: bytes_of_ticks(&[5, -6, 7]),
+        ..Lent::default()
+    };
     let (number, count, degree, place, start, length) = (0, 3, 2, 7, 2, 3);
     let expected = TableAnswer {
         number,
@@ -102,13 +129,28 @@ fn lists_are_read_and_written() {
         start,
         length,
     };
-    assert_eq!((answer, list), (expected, [-1, -2, -3]));
-    assert_eq!(clean(bridge.read_table(None, None)).number, 1);
-    assert_eq!(clean(bridge.read_table(None, Some(&mut []))).number, 0);
+    let called = clean(bridge.call(Asked::ReadTable, &lent));
+    let list = bytes_of_ticks(&[-1, -2, -3]);
+    assert_eq!(called, (Reply::Table(expected), list));
+    let mut number = |lent: &Lent| clean(bridge.call(Asked::ReadTable, lent)).0.number();
+    assert_eq!(number(&null()), 1);
+    assert_eq!(number(&Lent::default()), 0);
+}
 
-    let mut image = [16; 4];
-    let (range, sizes) = ((i64::MIN, -1), (u32::MAX, 17));
-    let answer = clean(bridge.write_table(range, sizes, Some(&[1, -2]), Some(&mut image)));
+#[test]
+fn images_are_written() {
+    let mut bridge = started(LIMIT);
+    let lent = Lent {
+        list: &[1, -2],
+        buffer: vec![16; 4],
+        ..Lent::default()
+    };
+    let asked = Asked::WriteTable {
+        start: i64::MIN,
+        length: -1,
+        count: u32::MAX,
+        degree: 17,
+    };
     let expected = Answer {
         number: u32::MAX,
         steps: 17,
@@ -116,141 +158,153 @@ fn lists_are_read_and_written() {
         index: 2_004,
         tick: i64::MIN + 1,
     };
-    assert_eq!((answer, image), (expected, [16, 17, 18, 19]));
-    assert_eq!(clean(bridge.write_table(range, sizes, None, None)).index, 0);
+    let called = clean(bridge.call(asked, &lent));
+    assert_eq!(called, (Reply::Answer(expected), vec![16, 17, 18, 19]));
+    let empty = Answer {
+        place: 0,
+        index: 0,
+        ..expected
+    };
+    let called = clean(bridge.call(asked, &null()));
+    assert_eq!(called, (Reply::Answer(empty), vec![]));
 }
 
 #[test]
-fn conversions_arrive_as_they_were_asked() {
-    let mut bridge = started(&WHOLE, LIMIT);
+fn dates_arrive_as_they_were_asked() {
+    let mut bridge = started(LIMIT);
     let date = Date {
         number: u32::MAX,
         place: u64::MAX,
         first: -0.0,
         second: 0.1,
     };
-    assert_eq!(clean(bridge.write_date(-1)), date);
-    let answer = |place, index, tick| Answer {
+    let called = clean(bridge.call(Asked::WriteDate { tick: -1 }, &Lent::default()));
+    assert_eq!(called, (Reply::Date(date), vec![]));
+}
+
+/// What the archive answers to codes 3 and 2^32 − 1.
+fn converted(place: u64, index: u64, tick: i64) -> Reply {
+    Reply::Answer(Answer {
         number: 3,
         steps: u32::MAX,
         place,
         index,
         tick,
-    };
-    let codes = (3, u32::MAX);
-    let ticks = clean(bridge.convert_ticks(codes, i64::MIN, None));
-    assert_eq!(ticks, answer(1, 0, i64::MIN));
-    let ticks = clean(bridge.convert_ticks(codes, i64::MAX, Some(&[1; 1024])));
-    assert_eq!(ticks, answer(0, 1024, i64::MAX));
-    // Doubles pass as their bits, whatever they are.
-    let (odd, zero) = (0x7ff0_0000_0000_0001, (-0.0_f64).to_bits());
-    let parts = (f64::from_bits(odd), -0.0);
-    let dates = clean(bridge.convert_date(codes, parts, Some(&[6])));
-    assert_eq!(dates, answer(odd, zero, 6));
-    let seconds = clean(bridge.convert_j2000(codes, f64::from_bits(odd), None));
-    assert_eq!(seconds, answer(odd, 0, -1));
-    let mut answers = [0; 3];
-    let batch = bridge.batch(codes, Some(&[4, -5]), Some(&mut answers), Some(&[1, 2, 3]));
-    assert_eq!(clean(batch), answer(2_003, 3, 3));
-    assert_eq!(answers, [8, -10, 0]);
+    })
 }
 
 #[test]
-fn readings_arrive_as_they_were_asked() {
-    let mut bridge = started(&WHOLE, LIMIT);
+fn conversions_arrive_as_they_were_asked() {
+    let mut bridge = started(LIMIT);
+    let mut convert = |reading, lent: &Lent| {
+        let (from, to) = (3, u32::MAX);
+        clean(bridge.call(Asked::Convert { from, to, reading }, lent)).0
+    };
+    for tick in [i64::MIN, -1, 0, i64::MAX] {
+        let ticks = Reading::Ticks(tick);
+        assert_eq!(convert(ticks, &null()), converted(1, 0, tick));
+        assert_eq!(convert(ticks, &Lent::default()), converted(0, 0, tick));
+        assert_eq!(
+            convert(ticks, &Lent::table(&[1; 1024])),
+            converted(0, 1024, tick)
+        );
+    }
+    // Doubles pass as their bits, whatever they are.
     let mut random = Random::new(50);
     for _ in 0..200 {
         let (first, second) = (any_double(&mut random), any_double(&mut random));
-        let date = Answer {
-            number: 9,
-            steps: u32::MAX,
-            place: first.to_bits(),
-            index: second.to_bits(),
-            tick: -1,
-        };
-        assert_eq!(clean(bridge.read_date((first, second))), date);
-        let seconds = Answer {
-            number: 10,
-            steps: 0,
-            place: first.to_bits(),
-            index: u64::MAX,
-            tick: 1,
-        };
-        assert_eq!(clean(bridge.read_j2000(first)), seconds);
+        let bits = [first, second].map(f64::to_bits);
+        assert_eq!(
+            convert(Reading::TwoPart(first, second), &Lent::table(&[6])),
+            converted(bits[0], bits[1], 6)
+        );
+        assert_eq!(
+            convert(Reading::SinceJ2000(first), &null()),
+            converted(bits[0], 0, -1)
+        );
     }
 }
 
 #[test]
-fn steps_over_the_table_arrive_as_they_were_asked() {
-    let mut bridge = started(&WHOLE, LIMIT);
-    let answer = |number, null: bool, place, index, tick| Answer {
-        number,
-        steps: null.into(),
-        place,
-        index,
-        tick,
+fn batches_arrive_as_they_were_asked() {
+    let mut bridge = started(LIMIT);
+    let lent = Lent {
+        table: &[1, 2, 3],
+        list: &[4, -5],
+        buffer: bytes_of_ticks(&[0; 3]),
+        null: false,
     };
-    for tick in [i64::MIN, -1, 0, i64::MAX] {
-        let null = clean(bridge.tt_to_tdb(tick, None));
-        assert_eq!(null, answer(11, true, 0, 0, tick));
-        let empty = clean(bridge.tdb_to_tt(tick, Some(&[])));
-        assert_eq!(empty, answer(12, false, 0, 0, tick));
-        // The second of the two is told that the table is the same.
-        let forward = clean(bridge.tt_to_tdb(tick, Some(&[7, 8, 9])));
-        assert_eq!(forward, answer(11, false, 3, 9, tick));
-        let back = clean(bridge.tdb_to_tt(tick, Some(&[7, 8, 9])));
-        assert_eq!(back, answer(12, false, 3, 9, tick));
-    }
-    let changed = ["the table's bytes were changed"];
-    assert_eq!(beside(bridge.tt_to_tdb(0, Some(b"c."))), changed);
-    let written = ["bytes beside the lent table were written"];
-    assert_eq!(beside(bridge.tdb_to_tt(0, Some(b">."))), written);
-    assert_eq!(beside(bridge.tdb_to_tt(0, Some(b"c."))), [""; 0]);
-}
-
-/// What the bridge saw beside the answer.
-#[track_caller]
-fn beside<T>(outcome: Outcome<T>) -> Vec<&'static str> {
-    outcome.expect("an answer").beside
+    let (from, to) = (3, u32::MAX);
+    let called = clean(bridge.call(Asked::Batch { from, to }, &lent));
+    let answers = bytes_of_ticks(&[8, -10, 0]);
+    assert_eq!(called, (converted(2_003, 3, 3), answers));
 }
 
 #[test]
 fn writes_outside_of_what_was_lent_are_seen() {
-    let mut bridge = started(&WHOLE, LIMIT);
-    let table = ["bytes beside the lent table were written"];
-    assert_eq!(beside(bridge.judge(Some(b"<.."))), table);
-    assert_eq!(beside(bridge.judge(Some(b">.."))), table);
-    let changed = ["the table's bytes were changed"];
-    for _ in 0..2 {
-        let answer = bridge.judge(Some(b"c.."));
-        // The table is whole again for the next call.
-        assert_eq!(answer.as_ref().unwrap().answer.place, u64::from(b'.'));
-        assert_eq!(beside(answer), changed);
+    let mut bridge = started(LIMIT);
+    let written = ["bytes beside the lent table were written"];
+    for table in [b"<..", b">.."] {
+        let outcome = bridge.call(Asked::Judge, &Lent::table(table));
+        assert_eq!(beside(outcome), written);
     }
     let buffer = ["bytes beside the lent buffer were written"];
     for table in [b"<", b">"] {
-        let mut list = [1, 2];
-        let outcome = bridge.read_table(Some(table), Some(&mut list));
-        assert_eq!(beside(outcome), buffer);
-        assert_eq!(list, [-1, -2]);
+        let lent = Lent {
+            buffer: bytes_of_ticks(&[1, 2]),
+            ..Lent::table(table)
+        };
+        let called = bridge.call(Asked::ReadTable, &lent).expect("an answer");
+        assert_eq!(called.beside, buffer);
+        assert_eq!(called.buffer, bytes_of_ticks(&[-1, -2]));
     }
-    let mut write = |list: &[i64]| beside(bridge.write_table((0, 0), (0, 0), Some(list), None));
-    assert_eq!(
-        write(&[i64::from(b'c'), 1]),
-        ["the list lent to read was changed"]
-    );
-    assert_eq!(
-        write(&[i64::from(b'>'), 1]),
-        ["bytes beside the list lent to read were written"]
-    );
+    let asked = Asked::WriteTable {
+        start: 0,
+        length: 0,
+        count: 0,
+        degree: 0,
+    };
+    let mut write = |list: &[i64]| {
+        let lent = Lent {
+            list,
+            ..Lent::default()
+        };
+        beside(bridge.call(asked, &lent))
+    };
+    let list = ["bytes beside the list lent to read were written"];
+    assert_eq!(write(&[i64::from(b'>'), 1]), list);
     assert_eq!(write(&[1]), [""; 0]);
 }
 
 #[test]
+fn what_was_lent_to_be_read_and_is_changed_is_seen() {
+    let mut bridge = started(LIMIT);
+    for _ in 0..2 {
+        let called = bridge.call(Asked::Judge, &Lent::table(b"c.."));
+        let Called { reply, beside, .. } = called.expect("an answer");
+        // The table is whole again for the next call.
+        assert_eq!((reply, vec![]), judged(0, 3, b'c'.into(), b'.'.into()));
+        assert_eq!(beside, ["the table's bytes were changed"]);
+    }
+    let asked = Asked::WriteTable {
+        start: 0,
+        length: 0,
+        count: 0,
+        degree: 0,
+    };
+    let lent = Lent {
+        list: &[i64::from(b'c'), 1],
+        ..Lent::default()
+    };
+    let changed = ["the list lent to read was changed"];
+    assert_eq!(beside(bridge.call(asked, &lent)), changed);
+}
+
+#[test]
 fn a_function_that_breaks_the_bridge_is_told() {
-    let lost = |table: &[u8], limit| match started(&WHOLE, limit).judge(Some(table)) {
-        Err(Failure::Lost(what)) => what,
-        other => panic!("{other:?}"),
+    let lost = |table: &[u8], limit| {
+        let outcome = started(limit).call(Asked::Judge, &Lent::table(table));
+        outcome.expect_err("the bridge is lost")
     };
     assert!(lost(b"x", LIMIT).contains("the bridge ended early, with signal: 11"));
     assert!(lost(b"e", LIMIT).contains("the bridge ended early, with exit status: 7"));
@@ -259,19 +313,10 @@ fn a_function_that_breaks_the_bridge_is_told() {
 }
 
 #[test]
-fn an_archive_with_some_of_the_functions_does_too() {
-    let mut bridge = started(&built("half", &["tables"]), LIMIT);
-    assert_eq!(clean(bridge.judge(None)).number, 1);
-    assert_eq!(bridge.write_date(0), Err(Failure::Missing));
-    assert_eq!(
-        bridge.batch((0, 0), None, None, None),
-        Err(Failure::Missing)
-    );
-    assert_eq!(bridge.read_date((0.0, 0.0)), Err(Failure::Missing));
-    assert_eq!(bridge.tdb_to_tt(0, None), Err(Failure::Missing));
-    // Others may have these four and nothing else.
-    let mut bridge = started(&built("steps", &["steps"]), LIMIT);
-    assert_eq!(clean(bridge.read_j2000(0.0)).number, 10);
-    assert_eq!(clean(bridge.tt_to_tdb(0, None)).number, 11);
-    assert_eq!(bridge.judge(None), Err(Failure::Missing));
+fn an_archive_that_lacks_a_function_makes_no_bridge() {
+    let (folder, mut build) = archive("half", &["tables"]);
+    let output = build.output().expect("the script");
+    let told = String::from_utf8_lossy(&output.stderr);
+    assert!(!output.status.success() && told.contains("colliedash_batch"));
+    assert!(!folder.join("bridge").exists(), "{told}");
 }

@@ -3,85 +3,57 @@
 
 mod harness;
 
-use harness::{STAGE, changed, compared, is_reported};
-use second::blocks::judge;
-use second::compare::{Answer, Desk, Outcome, Own};
-use second::dates::{GREATEST_DAYS, GREATEST_SECONDS, J2000, ORIGIN};
-use second::desk::table_step;
-use second::ephemeris::tdb_from_tt;
+use harness::{STAGE, answer, compared, is_reported};
+use second::compare::{Answer, Asked, Called, Lent, Own};
+use second::dates::{GREATEST_DAYS, GREATEST_SECONDS, J2000, ORIGIN, Reading};
+use second::ephemeris::{tdb_from_tt, tt_from_tdb};
 use second::refusal::Refusal;
-use second::scales::{GREATEST_EPOCH, Scale};
-use second::table::{Judged, Table};
+use second::scales::GREATEST_EPOCH;
+use second::table::Table;
 
-/// Reads dates rightly, but for the change. Seconds stand in the first part.
-struct Reads<F: Fn((f64, f64), &mut Answer)>(F);
-
-impl<F: Fn((f64, f64), &mut Answer)> Desk for Reads<F> {
-    fn read_date(&mut self, parts: (f64, f64)) -> Outcome<Answer> {
-        changed(Own.read_date(parts), |answer| self.0(parts, answer))
-    }
-
-    fn read_j2000(&mut self, seconds: f64) -> Outcome<Answer> {
-        let parts = (seconds, 0.0);
-        changed(Own.read_j2000(seconds), |answer| self.0(parts, answer))
+fn reading(asked: Asked) -> Reading {
+    match asked {
+        Asked::Convert { reading, .. } => reading,
+        other => panic!("{other:?}"),
     }
 }
 
-/// Steps over an accepted table rightly, but for the change. It keeps the table
-/// that it judged last, since many plants are tried.
-struct Steps<F: Fn(i64, &Table, &mut Answer)> {
-    change: F,
-    /// A refusal of a table that it tells as 6.
-    blind_to: u32,
-    bytes: Vec<u8>,
-    judged: Judged,
+/// A difference in the answers to readings. Seconds stand in the first part.
+#[track_caller]
+fn is_reported_of_readings(name: &str, change: impl Fn((f64, f64), &mut Answer)) {
+    is_reported(name, |asked, _: &Lent, called: &mut Called| {
+        let parts = match reading(asked) {
+            Reading::TwoPart(first, second) => (first, second),
+            Reading::SinceJ2000(seconds) => (seconds, 0.0),
+            Reading::Ticks(tick) => panic!("{tick}"),
+        };
+        change(parts, answer(called));
+    });
 }
 
-fn steps<F: Fn(i64, &Table, &mut Answer)>(change: F) -> Steps<F> {
-    Steps {
-        change,
-        blind_to: u32::MAX,
-        bytes: Vec::new(),
-        judged: judge(&[]),
-    }
-}
-
-impl<F: Fn(i64, &Table, &mut Answer)> Steps<F> {
-    fn step(&mut self, from: Scale, to: Scale, tick: i64, bytes: Option<&[u8]>) -> Outcome<Answer> {
-        let bytes = bytes.unwrap_or_default();
-        if self.bytes != bytes {
-            (self.bytes, self.judged) = (bytes.to_vec(), judge(bytes));
+/// A difference in the steps over an accepted table.
+#[track_caller]
+fn is_reported_of_steps(name: &str, change: impl Fn(i64, &Table, &mut Answer)) {
+    let mut own = Own::default();
+    is_reported(name, |asked, lent: &Lent, called: &mut Called| {
+        let Reading::Ticks(tick) = reading(asked) else {
+            panic!("{asked:?}")
+        };
+        if let Ok(table) = own.judged(lent.table) {
+            change(tick, table, answer(called));
         }
-        let mut answer = Answer::from(table_step(from, to, tick, &self.judged));
-        if let Ok(table) = &self.judged {
-            (self.change)(tick, table, &mut answer);
-        }
-        if answer.number == self.blind_to {
-            answer = refused(6, 0);
-        }
-        Ok(answer.into())
-    }
-}
-
-impl<F: Fn(i64, &Table, &mut Answer)> Desk for Steps<F> {
-    fn tt_to_tdb(&mut self, tick: i64, table: Option<&[u8]>) -> Outcome<Answer> {
-        self.step(Scale::Tt, Scale::Tdb, tick, table)
-    }
-
-    fn tdb_to_tt(&mut self, tick: i64, table: Option<&[u8]>) -> Outcome<Answer> {
-        self.step(Scale::Tdb, Scale::Tt, tick, table)
-    }
+    });
 }
 
 fn refused(number: u32, place: u64) -> Answer {
     Answer::from(Refusal::new(number, place))
 }
 
-const DATE: &str = "colliedash_read_date";
-const SECONDS: &str = "colliedash_read_j2000";
+const DATE: &str = "colliedash_convert_date, the reading alone";
+const SECONDS: &str = "colliedash_convert_j2000, the reading alone";
 const BOTH_READINGS: [&str; 2] = [DATE, SECONDS];
-const FORWARD: &str = "colliedash_tt_to_tdb";
-const BACK: &str = "colliedash_tdb_to_tt";
+const FORWARD: &str = "colliedash_convert_ticks, TT to TDB";
+const BACK: &str = "colliedash_convert_ticks, TDB to TT";
 const BOTH_STEPS: [&str; 2] = [FORWARD, BACK];
 
 fn is_odd_multiple(value: f64, unit: f64) -> bool {
@@ -93,10 +65,11 @@ fn a_wrong_tick_of_a_reading_is_reported() {
     // The sum of the parts is rounded, not each part.
     let sum = |(first, second): (f64, f64), answer: &mut Answer| {
         if answer.number == 0 {
-            *answer = Own.read_date((first + second, 0.0)).unwrap().answer;
+            let epoch = Reading::TwoPart(first + second, 0.0).epoch();
+            answer.tick = epoch.unwrap_or_default();
         }
     };
-    is_reported(DATE, Reads(sum));
+    is_reported_of_readings(DATE, sum);
     // Half a tick is an odd multiple of 2^-17 day or of 2^-10 second.
     for (name, power) in [(DATE, -17), (SECONDS, -10)] {
         for sign in [1.0, -1.0] {
@@ -104,7 +77,7 @@ fn a_wrong_tick_of_a_reading_is_reported() {
                 let half = is_odd_multiple(first, 2f64.powi(power)) && first * sign > 0.0;
                 answer.tick -= i64::from(half && answer.number == 0);
             };
-            is_reported(name, Reads(half_down));
+            is_reported_of_readings(name, half_down);
         }
     }
     let in_doubles = |(seconds, _): (f64, f64), answer: &mut Answer| {
@@ -112,7 +85,7 @@ fn a_wrong_tick_of_a_reading_is_reported() {
             answer.tick = (seconds * 1e9 + 0.5).floor() as i64 + (J2000 - ORIGIN) as i64;
         }
     };
-    is_reported(SECONDS, Reads(in_doubles));
+    is_reported_of_readings(SECONDS, in_doubles);
 }
 
 #[test]
@@ -124,13 +97,13 @@ fn a_reading_refused_or_accepted_wrongly_is_reported() {
                     *answer = refused(3, 0);
                 }
             };
-            is_reported(name, Reads(at_limit));
+            is_reported_of_readings(name, at_limit);
             let past_limit = |(first, _): (f64, f64), answer: &mut Answer| {
                 if (first.abs() == greatest.next_up()) && first * limit > 0.0 {
                     *answer = refused(4, 0);
                 }
             };
-            is_reported(name, Reads(past_limit));
+            is_reported_of_readings(name, past_limit);
         }
     }
     for name in BOTH_READINGS {
@@ -139,17 +112,17 @@ fn a_reading_refused_or_accepted_wrongly_is_reported() {
                 *answer = refused(2, 0);
             }
         };
-        is_reported(name, Reads(subnormal));
+        is_reported_of_readings(name, subnormal);
         let negative_nan = |(first, _): (f64, f64), answer: &mut Answer| {
             if first.is_nan() && first.is_sign_negative() {
                 *answer = refused(3, 0);
             }
         };
-        is_reported(name, Reads(negative_nan));
+        is_reported_of_readings(name, negative_nan);
         let outside_range = |_: (f64, f64), answer: &mut Answer| {
             answer.number %= 4;
         };
-        is_reported(name, Reads(outside_range));
+        is_reported_of_readings(name, outside_range);
     }
 }
 
@@ -162,7 +135,7 @@ fn a_reading_at_the_very_end_is_judged() {
                 *answer = refused(4, 0);
             }
         };
-        is_reported(DATE, Reads(at_end));
+        is_reported_of_readings(DATE, at_end);
     }
 }
 
@@ -170,22 +143,22 @@ fn a_reading_at_the_very_end_is_judged() {
 fn places_steps_and_order_of_a_reading_are_reported() {
     for name in BOTH_READINGS {
         let a_step = |_: (f64, f64), answer: &mut Answer| answer.steps += 1;
-        is_reported(name, Reads(a_step));
+        is_reported_of_readings(name, a_step);
         let place = |_: (f64, f64), answer: &mut Answer| {
             answer.place += u64::from(answer.number == 4);
         };
-        is_reported(name, Reads(place));
+        is_reported_of_readings(name, place);
     }
     let three_first = |(first, second): (f64, f64), answer: &mut Answer| {
         if second.is_nan() && first.is_finite() && first.abs() > GREATEST_DAYS {
             *answer = refused(3, 0);
         }
     };
-    is_reported(DATE, Reads(three_first));
+    is_reported_of_readings(DATE, three_first);
     let first_part = |_: (f64, f64), answer: &mut Answer| {
         answer.place = 0;
     };
-    is_reported(DATE, Reads(first_part));
+    is_reported_of_readings(DATE, first_part);
 }
 
 #[test]
@@ -196,22 +169,22 @@ fn a_wrong_tick_of_a_step_is_reported() {
             answer.tick = tick - table.granule(later - 1).d(tick);
         }
     };
-    is_reported(FORWARD, steps(earlier_granule));
+    is_reported_of_steps(FORWARD, earlier_granule);
     let latest = |asked: i64, table: &Table, answer: &mut Answer| {
         let after = answer.tick + 1;
         if answer.number == 0 && tdb_from_tt(table, after) == Some(asked) {
             answer.tick = after;
         }
     };
-    is_reported(BACK, steps(latest));
+    is_reported_of_steps(BACK, latest);
     let before_the_jump = |asked: i64, table: &Table, answer: &mut Answer| {
         let tdb = tdb_from_tt(table, answer.tick);
         answer.tick -= i64::from(answer.number == 0 && tdb != Some(asked));
     };
-    is_reported(BACK, steps(before_the_jump));
+    is_reported_of_steps(BACK, before_the_jump);
     let no_step = |_: i64, _: &Table, answer: &mut Answer| answer.steps = 0;
     for name in BOTH_STEPS {
-        is_reported(name, steps(no_step));
+        is_reported_of_steps(name, no_step);
     }
 }
 
@@ -227,86 +200,99 @@ fn an_end_of_the_table_judged_wrongly_is_reported() {
                 answer.number = 6 * (1 - beyond) as u32;
             }
         };
-        is_reported(FORWARD, steps(forward));
+        is_reported_of_steps(FORWARD, forward);
         let back = |asked: i64, table: &Table, answer: &mut Answer| {
             let ends = [table.first_tick(), table.last_tick()].map(|tt| tdb(table, tt));
             if [ends[0] - beyond, ends[1] + beyond].contains(&asked) {
                 answer.number = 6 * (1 - beyond) as u32;
             }
         };
-        is_reported(BACK, steps(back));
+        is_reported_of_steps(BACK, back);
     }
     let no_tt = |asked: i64, table: &Table, answer: &mut Answer| {
         if answer.number == 0 && tdb(table, answer.tick) != asked {
             *answer = refused(6, 0);
         }
     };
-    is_reported(BACK, steps(no_tt));
+    is_reported_of_steps(BACK, no_tt);
 }
 
-fn outside_range(tick: i64) -> bool {
-    tick.unsigned_abs() > GREATEST_EPOCH as u64
-}
-
-/// What a conversion does and the step by itself must not: 4 of the start.
 #[test]
 fn four_for_six_and_six_for_four_are_reported() {
-    let of_start = |tick: i64, _: &Table, answer: &mut Answer| {
-        if answer.number == 6 && outside_range(tick) {
-            *answer = refused(4, 0);
-        }
-    };
-    for name in BOTH_STEPS {
-        is_reported(name, steps(of_start));
-    }
-    let of_table = |_: i64, _: &Table, answer: &mut Answer| {
-        if answer.number == 4 {
+    let of_start = |_: i64, _: &Table, answer: &mut Answer| {
+        if (answer.number, answer.place) == (4, 0) {
             *answer = refused(6, 0);
         }
     };
-    is_reported(FORWARD, steps(of_table));
-    let place = |_: i64, _: &Table, answer: &mut Answer| {
-        answer.place -= u64::from(answer.number == 4);
+    for name in BOTH_STEPS {
+        is_reported_of_steps(name, of_start);
+    }
+    let of_table = |_: i64, _: &Table, answer: &mut Answer| {
+        if (answer.number, answer.place) == (4, 1) {
+            *answer = refused(6, 0);
+        }
     };
-    is_reported(FORWARD, steps(place));
+    is_reported_of_steps(FORWARD, of_table);
+    let place = |_: i64, _: &Table, answer: &mut Answer| {
+        answer.place = 0;
+    };
+    is_reported_of_steps(FORWARD, place);
     let end_of_range = |_: i64, _: &Table, answer: &mut Answer| {
         if answer.number == 0 && answer.tick.abs() == GREATEST_EPOCH {
             *answer = refused(4, 1);
         }
     };
-    is_reported(FORWARD, steps(end_of_range));
-    // A table at the range's end gives TDB beyond it, and takes it back.
-    let asked_outside = |asked: i64, _: &Table, answer: &mut Answer| {
-        if answer.number == 0 && outside_range(asked) {
-            *answer = refused(4, 0);
+    is_reported_of_steps(FORWARD, end_of_range);
+    // A table at the range's end gives TDB beyond it: no epoch to convert back.
+    let asked_outside = |asked: i64, table: &Table, answer: &mut Answer| {
+        if answer.number == 4
+            && let Some(tick) = tt_from_tdb(table, asked)
+        {
+            *answer = Answer {
+                tick,
+                steps: 1,
+                ..Answer::default()
+            };
         }
     };
-    is_reported(BACK, steps(asked_outside));
+    is_reported_of_steps(BACK, asked_outside);
 }
 
 #[test]
 fn a_table_that_is_not_refused_is_reported() {
     for name in BOTH_STEPS {
         for number in 10..=16 {
-            let mut blind = steps(|_, _, _| ());
-            blind.blind_to = number;
-            is_reported(name, blind);
+            is_reported(name, |_, _: &Lent, called: &mut Called| {
+                if called.reply.number() == number {
+                    *answer(called) = refused(6, 0);
+                }
+            });
         }
     }
 }
 
-/// Without a planted difference these desks show none, and every comparison
-/// has many cases of its own even on a small stage.
+/// No step is walked, so no table is looked at.
 #[test]
-fn nothing_planted_is_nothing_reported() {
+fn a_reading_that_looks_at_the_table_is_reported() {
     for name in BOTH_READINGS {
-        let ledger = compared(name, &mut Reads(|_, _| ())).unwrap();
-        assert_eq!(ledger.different, 0, "{name}");
+        let mut own = Own::default();
+        is_reported(name, |_, lent: &Lent, called: &mut Called| {
+            if let Err(Refusal { number, place }) = *own.judged(lent.table) {
+                *answer(called) = refused(number, place);
+            }
+        });
+    }
+}
+
+/// Every comparison has many cases of its own even on a small stage.
+#[test]
+fn there_are_many_cases() {
+    for name in BOTH_READINGS {
+        let ledger = compared(name, &mut Own::default());
         assert!(ledger.cases > STAGE.size.readings() as u64, "{name}");
     }
     for name in BOTH_STEPS {
-        let ledger = compared(name, &mut steps(|_, _, _| ())).unwrap();
-        assert_eq!(ledger.different, 0, "{name}");
-        assert!(ledger.cases > 80 * STAGE.accepted.len() as u64, "{name}");
+        let ledger = compared(name, &mut Own::default());
+        assert!(ledger.cases > 50 * STAGE.accepted.len() as u64, "{name}");
     }
 }

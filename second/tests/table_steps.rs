@@ -1,19 +1,20 @@
-//! The one step over the table by itself: no start to be judged, the table's
-//! refusal first, then 6, then 4.
+//! The one step over the table by itself: the table's refusal first, then 4 of
+//! the start, then 6, then 4.
 
-use second::desk::{Converted, table_step};
-use second::ephemeris::{tdb_from_tt, tt_from_tdb_by_brute_force};
+use second::dates::Reading;
+use second::desk::{Converted, convert};
+use second::ephemeris::{tdb_from_tt, tt_from_tdb, tt_from_tdb_by_brute_force};
 use second::generate::{Random, accepted_tables, tdb_ticks, tt_ticks};
 use second::refusal::Refusal;
-use second::scales::{GREATEST_EPOCH, Scale};
+use second::scales::GREATEST_EPOCH;
 use second::table::{Judged, Table};
 
 fn forward(tick: i64, table: &Judged) -> Result<Converted, Refusal> {
-    table_step(Scale::Tt, Scale::Tdb, tick, table)
+    convert(3, 5, Reading::Ticks(tick), table)
 }
 
 fn back(tick: i64, table: &Judged) -> Result<Converted, Refusal> {
-    table_step(Scale::Tdb, Scale::Tt, tick, table)
+    convert(5, 0, Reading::Ticks(tick), table)
 }
 
 fn stepped(tick: i64) -> Result<Converted, Refusal> {
@@ -54,11 +55,15 @@ fn the_known_values_one_step_each_way() {
 }
 
 #[test]
-fn outside_the_table_is_6_however_far() {
-    let far = GREATEST_EPOCH + 1;
-    for tick in [-1, SECOND + 1, far, -far, i64::MIN, i64::MAX] {
+fn outside_the_table_is_6_and_no_epoch_is_4() {
+    let end = GREATEST_EPOCH;
+    for tick in [-1, SECOND + 1, end, -end] {
         assert_eq!(forward(tick, &known()), refused(6, 0), "{tick}");
         assert_eq!(back(tick, &known()), refused(6, 0), "{tick}");
+    }
+    for tick in [end + 1, -end - 1, i64::MIN, i64::MAX] {
+        assert_eq!(forward(tick, &known()), refused(4, 0), "{tick}");
+        assert_eq!(back(tick, &known()), refused(4, 0), "{tick}");
     }
 }
 
@@ -75,21 +80,24 @@ fn the_table_is_told_first_whatever_the_tick() {
 
 /// D is 3 or −3 throughout, at an end of the range.
 #[test]
-fn a_tdb_outside_the_range_is_4_forward_and_taken_back() {
+fn a_tdb_outside_the_range_is_4_both_ways() {
     let end = GREATEST_EPOCH;
     let first = granule(-end, &[3 * 65_536]);
     assert_eq!(forward(-end, &first), refused(4, 1));
     assert_eq!(forward(-end + 2, &first), refused(4, 1));
     assert_eq!(forward(-end + 3, &first), stepped(-end));
-    assert_eq!(forward(-end - 1, &first), refused(6, 0));
-    assert_eq!(back(-end - 3, &first), stepped(-end));
-    assert_eq!(back(-end - 4, &first), refused(6, 0));
+    assert_eq!(forward(-end - 1, &first), refused(4, 0));
+    // The table would take it back, but it is no epoch.
+    assert_eq!(tt_from_tdb(first.as_ref().unwrap(), -end - 3), Some(-end));
+    assert_eq!(back(-end - 3, &first), refused(4, 0));
+    assert_eq!(back(-end, &first), stepped(-end + 3));
     let last = granule(end - SECOND, &[-3 * 65_536]);
     assert_eq!(forward(end, &last), refused(4, 1));
     assert_eq!(forward(end - 3, &last), stepped(end));
-    assert_eq!(forward(end + 1, &last), refused(6, 0));
-    assert_eq!(back(end + 3, &last), stepped(end));
-    assert_eq!(back(end + 4, &last), refused(6, 0));
+    assert_eq!(forward(end + 1, &last), refused(4, 0));
+    assert_eq!(tt_from_tdb(last.as_ref().unwrap(), end + 3), Some(end));
+    assert_eq!(back(end + 3, &last), refused(4, 0));
+    assert_eq!(back(end, &last), stepped(end - 3));
 }
 
 /// Against the definition, tick by tick, where the generators ask.
@@ -104,13 +112,18 @@ fn back_is_the_earliest_tick_at_or_after_the_one_asked() {
         let asked = tdb_ticks(&table, &tt);
         let judged = Ok(table.clone());
         for asked in asked {
+            let is_epoch = (-GREATEST_EPOCH..=GREATEST_EPOCH).contains(&asked);
             let earliest = tt_from_tdb_by_brute_force(&table, asked);
             match earliest.map(|tt| tdb_from_tt(&table, tt)) {
                 None => outside += 1,
                 Some(tdb) if tdb == Some(asked) => given += 1,
                 Some(_) => between += 1,
             }
-            let expected = earliest.map_or(refused(6, 0), stepped);
+            let expected = match earliest {
+                _ if !is_epoch => refused(4, 0),
+                Some(tt) => stepped(tt),
+                None => refused(6, 0),
+            };
             assert_eq!(back(asked, &judged), expected, "{asked}");
         }
     }

@@ -1,4 +1,4 @@
--- 01's known values of dates, computed over the definitions. `fin negative m e` is the double ±m·2^e. Assumes nothing.
+-- 01's known values of dates that are not marked P, and the edges of its rules, computed over the definitions. P12 and P13 stand in `promises`. `fin negative m e` is the double ±m·2^e. Assumes nothing.
 use mathlib.Core.Path.{_≡_, refl}
 use mathlib.Core.Bool.{Bool, true, false}
 use lib.IntN.{pos, negsuc, negℤ}
@@ -13,18 +13,12 @@ use Rattle.dates.specs.Readings.{inRange, readOf}
 use Rattle.dates.specs.Written.{sinceHalf, dayOf, firstPart, dateOf, writtenOf}
 use Rattle.dates.specs.Answers.{Accepts, Refuses, numberOf, placeOf, tickOf, writtenFirst, writtenNumber, writtenPlace}
 
--- 0.0, 2443144.5, 2443143.5, 2451545.0, 5000000.0 and -2556855.5
-abbrev zero-days : Float
-zero-days = fin false 0 (pos 0)
-
+-- 2443144.5, 2443143.5, 5000000.0 and -2556855.5
 abbrev d2443144-5 : Float
 d2443144-5 = fin false 4886289 (negsuc 0)
 
 abbrev d2443143-5 : Float
 d2443143-5 = fin false 4886287 (negsuc 0)
-
-abbrev d2451545 : Float
-d2451545 = fin false 2451545 (pos 0)
 
 abbrev d5000000 : Float
 d5000000 = fin false 78125 (pos 6)
@@ -33,10 +27,6 @@ abbrev minus2556855-5 : Float
 minus2556855-5 = fin true 5113711 (negsuc 0)
 
 pub record KnownDates : Type 0 where
-  -- 'P12 (2443144.5, 0) is -32184000000'
-  pub p12 : Accepts (readOf (TwoPart d2443144-5 zero-days)) (negℤ (pos 32184000000))
-  -- 'P13 (2451545, 0) is 725803167816000000'
-  pub p13 : Accepts (readOf (TwoPart d2451545 zero-days)) (pos 725803167816000000)
   -- '(5000000, -2556855.5) equals P12'
   pub split : Accepts (readOf (TwoPart d5000000 minus2556855-5)) (negℤ (pos 32184000000))
   -- 'NaN in either part is 2', with its place
@@ -45,7 +35,7 @@ pub record KnownDates : Type 0 where
 
 pub known-dates : KnownDates
 unfolding readOf inRange isValid tickOfDate nearestTick nearest floorDiv numerator denominator beyond numberOf placeOf tickOf
-known-dates = record { p12 = (refl, refl); p13 = (refl, refl); split = (refl, refl); nanFirst = λ second. (refl, refl); nanSecond = λ first h. rw h (refl, refl) }
+known-dates = record { split = (refl, refl); nanFirst = λ second. (refl, refl); nanSecond = λ first h. rw h (refl, refl) }
 
 -- ---- the edges of the rules. The double after 5000000.0 is 2^-30 more, the one after 10^10 is 2^-19 more
 abbrev past5000000 : Float

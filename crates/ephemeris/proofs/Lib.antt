@@ -10,7 +10,7 @@
 -- (near-first, near-next, near-fixed, near-last). When a TDB is covered: `Ends`.
 --
 -- Which granule a tick belongs to: `Granules` (at, at-join, at-last), with D's size there (delay-bounded); c_k of a granule in the flat list: coefficient-at. How
--- far D moves over any number of ticks: `Moves` (delay-moves). That accepted bytes hold a table of this kind: `Judging` (accepted-of). What the bounds of a table say in numbers: `Bounds`. The known values: `Known`.
+-- far D moves over any number of ticks: `Moves` (delay-moves). That accepted bytes hold a table of this kind: `Judging` (accepted-of). What the bounds of a table say in numbers: `Bounds`.
 pub mod Bounds
 pub mod Where
 pub mod Granules
@@ -21,5 +21,4 @@ pub mod Search
 pub mod Closing
 pub mod Ends
 pub mod Promises
-pub mod Known
 pub mod Judging

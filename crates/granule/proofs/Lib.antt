@@ -8,7 +8,7 @@
 --
 -- How large v and D can be: `Bounded` (value-small, delay-small).
 --
--- The known values: `Known`. The page's recurrence, b_k from b_(k+1) and b_(k+2): `Clauses` (b-top, b-turn). The other files serve these and the code.
+-- The page's recurrence, b_k from b_(k+1) and b_(k+2): `Clauses` (b-top, b-turn). The other files serve these and the code.
 pub mod Downward
 pub mod Clauses
 pub mod Clenshaw
@@ -21,4 +21,3 @@ pub mod Digits
 pub mod Product
 pub mod Term
 pub mod Sums
-pub mod Known

@@ -1,4 +1,3 @@
 pub mod Rule
 pub mod Tests
 pub mod Asked
-pub mod Known

@@ -1,4 +1,4 @@
 pub mod Answers
 pub mod Tables
-pub mod Crossing
-pub mod Readings
+pub mod Dates
+pub mod Conversions

@@ -1,8 +1,7 @@
 -- The laws of the scales. `Range`: a valid tick's size. `Promises`: what holds of every linear step (half a tick, order, there and back). `Paths`: the path
--- leads where it should. `Known`: the page's values. `Rates` and `Fractions` are the arithmetic behind the kernels.
+-- leads where it should. `Rates` and `Fractions` are the arithmetic behind the kernels.
 pub mod Range
 pub mod Rates
 pub mod Fractions
 pub mod Promises
 pub mod Paths
-pub mod Known

@@ -1,7 +1,7 @@
 //! The desk at the other end of a bridge.
 
-use super::wire::{self, ANSWER_NUMBERS, Arguments, Fields, GIVEN, NOTHING, SAME, Wired};
-use crate::compare::{Answer, Called, Date, Desk, Failure, Outcome, TableAnswer};
+use super::wire::{self, ANSWER_NUMBERS, Arguments, Fields, GIVEN, NOTHING, SAME};
+use crate::compare::{Asked, Called, Desk, Lent, Outcome, bytes_of_ticks};
 use std::io::{self, ErrorKind, Read, Write};
 use std::os::fd::OwnedFd;
 use std::os::unix::net::UnixStream;
@@ -51,25 +51,17 @@ impl Write for Line {
     }
 }
 
-/// What one call lends.
-#[derive(Default)]
-struct Loans<'a> {
-    table: Option<&'a [u8]>,
-    list: Option<Vec<u8>>,
-    written: Option<Vec<u8>>,
-}
-
-struct Reply {
+/// What came back of one request.
+struct Came {
     fields: Fields,
     seen: u64,
-    written: Vec<u8>,
+    buffer: Vec<u8>,
 }
 
 pub struct Bridge {
     child: Child,
     line: Line,
-    functions: u64,
-    asked: u64,
+    requests: u64,
     /// The table that was given last; the bridge still has it.
     table: Option<Vec<u8>>,
 }
@@ -88,18 +80,13 @@ fn nonsense(what: &str) -> io::Error {
 }
 
 impl Bridge {
-    /// Starts the words of a command and asks which functions it has.
+    /// Starts the words of a command, and sees that it is a bridge.
     pub fn start(command: &[&str], limit: Duration) -> Result<Bridge, String> {
         let mut bridge = Bridge::spawn(command, limit)
             .map_err(|error| format!("the bridge cannot be started: {error}"))?;
-        match bridge.ask(wire::WHICH, [0; 4], Loans::default()) {
-            Ok(reply) => bridge.functions = reply.fields[0],
-            Err(error) => return Err(bridge.loss(error)),
-        }
-        match bridge.functions {
-            0 => Err("the archive has no function of the interface".into()),
-            1..=wire::ALL_FUNCTIONS => Ok(bridge),
-            _ => Err("the bridge answers nonsense: functions that nobody knows".into()),
+        match bridge.ask(wire::NONE, [0; 4], &Lent::default()) {
+            Ok(_) => Ok(bridge),
+            Err(error) => Err(bridge.loss(error)),
         }
     }
 
@@ -120,83 +107,72 @@ impl Bridge {
                 limit,
                 begin: Instant::now(),
             },
-            functions: 0,
-            asked: 0,
+            requests: 0,
             table: None,
         })
     }
 
     /// A request's bytes. A table that the bridge has already is not sent again.
-    fn request(&mut self, function: u64, arguments: Arguments, loans: &Loans) -> Vec<u8> {
-        let same = loans.table.is_some() && loans.table == self.table.as_deref();
-        if !same && let Some(table) = loans.table {
-            self.table = Some(table.to_vec());
-        }
-        let places = [loans.table, loans.list.as_deref(), loans.written.as_deref()];
+    fn request(&mut self, function: u64, arguments: Arguments, lent: &Lent) -> Vec<u8> {
+        let same = self.table.as_deref() == Some(lent.table);
+        let list = bytes_of_ticks(lent.list);
+        let places = [lent.table, &list, &lent.buffer];
         let mut bytes = Vec::new();
         wire::put(&mut bytes, &[function]);
         wire::put(&mut bytes, &arguments);
         for (i, place) in places.iter().enumerate() {
-            let kind = match place {
-                None => NOTHING,
-                Some(_) if i == 0 && same => SAME,
-                Some(_) => GIVEN,
+            let kind = match i {
+                _ if place.is_empty() && lent.null => NOTHING,
+                0 if same => SAME,
+                _ => GIVEN,
             };
-            let length = place.map_or(0, <[u8]>::len);
-            wire::put(&mut bytes, &[kind, length as u64]);
+            wire::put(&mut bytes, &[kind, place.len() as u64]);
+            if i == 0 && kind == GIVEN {
+                self.table = Some(place.to_vec());
+            }
         }
         for place in &places[usize::from(same)..] {
-            bytes.extend_from_slice(place.unwrap_or_default());
+            bytes.extend_from_slice(place);
         }
         bytes
     }
 
-    fn ask(&mut self, function: u64, arguments: Arguments, loans: Loans) -> io::Result<Reply> {
-        let request = self.request(function, arguments, &loans);
-        self.asked += 1;
+    fn ask(&mut self, function: u64, arguments: Arguments, lent: &Lent) -> io::Result<Came> {
+        let request = self.request(function, arguments, lent);
+        self.requests += 1;
         self.line.begin = Instant::now();
         self.line.write_all(&request)?;
-        let length = loans.written.as_ref().map_or(0, Vec::len);
-        let mut bytes = vec![0; 8 * ANSWER_NUMBERS + length];
+        let mut bytes = vec![0; 8 * ANSWER_NUMBERS + lent.buffer.len()];
         self.line.read_exact(&mut bytes)?;
-        let written = bytes.split_off(8 * ANSWER_NUMBERS);
+        let buffer = bytes.split_off(8 * ANSWER_NUMBERS);
         let mut head = [0; ANSWER_NUMBERS];
         for (place, number) in head.iter_mut().zip(wire::numbers(&bytes)) {
             *place = number;
         }
         let [request, seen, fields @ ..] = head;
-        if request != self.asked {
+        if request != self.requests {
             return Err(nonsense("an answer to another request"));
         }
         if seen >> wire::SEEN.len() != 0 {
             return Err(nonsense("it has seen what nobody knows"));
         }
-        Ok(Reply {
+        Ok(Came {
             fields,
             seen,
-            written,
+            buffer,
         })
     }
 
-    /// Asks a function that the bridge has. Gives the bytes of the buffer lent
-    /// to be written, too.
-    fn call<T: Wired>(
-        &mut self,
-        function: u64,
-        arguments: Arguments,
-        loans: Loans,
-    ) -> Result<(Called<T>, Vec<u8>), Failure> {
-        if self.functions >> (function - 1) & 1 == 0 {
-            return Err(Failure::Missing);
-        }
-        let reply = self.ask(function, arguments, loans).and_then(|reply| {
-            let answer = T::from_fields(reply.fields);
-            Ok((answer.ok_or(nonsense("fields that no answer has"))?, reply))
-        });
-        let (answer, reply) = reply.map_err(|error| Failure::Lost(self.loss(error)))?;
-        let seen = (0..wire::SEEN.len()).filter(|bit| reply.seen >> bit & 1 == 1);
-        let beside = seen.map(|bit| wire::SEEN[bit]).collect();
-        Ok((Called { answer, beside }, reply.written))
+    fn called(&mut self, asked: Asked, lent: &Lent) -> io::Result<Called> {
+        let (function, arguments) = wire::numbers_of(asked);
+        let came = self.ask(function, arguments, lent)?;
+        let reply = wire::reply_of(asked, came.fields);
+        let seen = (0..wire::SEEN.len()).filter(|bit| came.seen >> bit & 1 == 1);
+        Ok(Called {
+            reply: reply.ok_or(nonsense("fields that no answer has"))?,
+            buffer: came.buffer,
+            beside: seen.map(|bit| wire::SEEN[bit]).collect(),
+        })
     }
 
     /// Says why there is no answer, and stops the bridge: what it might still
@@ -227,147 +203,10 @@ impl Bridge {
         }
         "the bridge closed its output".into()
     }
-
-    /// Calls a function that is lent a table at most.
-    fn plain<T: Wired>(
-        &mut self,
-        function: u64,
-        arguments: Arguments,
-        table: Option<&[u8]>,
-    ) -> Outcome<T> {
-        let loans = Loans {
-            table,
-            ..Loans::default()
-        };
-        Ok(self.call(function, arguments, loans)?.0)
-    }
-
-    fn convert(
-        &mut self,
-        function: u64,
-        (from, to): (u32, u32),
-        reading: [u64; 2],
-        table: Option<&[u8]>,
-    ) -> Outcome<Answer> {
-        let arguments = [from.into(), to.into(), reading[0], reading[1]];
-        self.plain(function, arguments, table)
-    }
-}
-
-/// What stands in a lent list after the call.
-fn fill<T: Copy>(list: Option<&mut [T]>, content: &[T]) {
-    list.unwrap_or_default().copy_from_slice(content);
 }
 
 impl Desk for Bridge {
-    fn judge(&mut self, table: Option<&[u8]>) -> Outcome<TableAnswer> {
-        self.plain(wire::JUDGE, [0; 4], table)
-    }
-
-    fn read_table(
-        &mut self,
-        table: Option<&[u8]>,
-        coefficients: Option<&mut [i64]>,
-    ) -> Outcome<TableAnswer> {
-        let loans = Loans {
-            table,
-            list: None,
-            written: coefficients.as_deref().map(wire::bytes_of_ticks),
-        };
-        let (called, written) = self.call(wire::READ_TABLE, [0; 4], loans)?;
-        fill(coefficients, &wire::ticks_of_bytes(&written));
-        Ok(called)
-    }
-
-    fn write_table(
-        &mut self,
-        (start, length): (i64, i64),
-        (count, degree): (u32, u32),
-        coefficients: Option<&[i64]>,
-        image: Option<&mut [u8]>,
-    ) -> Outcome<Answer> {
-        let range = [start, length].map(i64::cast_unsigned);
-        let arguments = [range[0], range[1], count.into(), degree.into()];
-        let loans = Loans {
-            table: None,
-            list: coefficients.map(wire::bytes_of_ticks),
-            written: image.as_deref().map(<[u8]>::to_vec),
-        };
-        let (called, written) = self.call(wire::WRITE_TABLE, arguments, loans)?;
-        fill(image, &written);
-        Ok(called)
-    }
-
-    fn write_date(&mut self, tick: i64) -> Outcome<Date> {
-        let arguments = [tick.cast_unsigned(), 0, 0, 0];
-        self.plain(wire::WRITE_DATE, arguments, None)
-    }
-
-    fn convert_ticks(
-        &mut self,
-        codes: (u32, u32),
-        tick: i64,
-        table: Option<&[u8]>,
-    ) -> Outcome<Answer> {
-        let reading = [tick.cast_unsigned(), 0];
-        self.convert(wire::CONVERT_TICKS, codes, reading, table)
-    }
-
-    fn convert_date(
-        &mut self,
-        codes: (u32, u32),
-        (first, second): (f64, f64),
-        table: Option<&[u8]>,
-    ) -> Outcome<Answer> {
-        let reading = [first, second].map(f64::to_bits);
-        self.convert(wire::CONVERT_DATE, codes, reading, table)
-    }
-
-    fn convert_j2000(
-        &mut self,
-        codes: (u32, u32),
-        seconds: f64,
-        table: Option<&[u8]>,
-    ) -> Outcome<Answer> {
-        let reading = [seconds.to_bits(), 0];
-        self.convert(wire::CONVERT_J2000, codes, reading, table)
-    }
-
-    fn batch(
-        &mut self,
-        (from, to): (u32, u32),
-        ticks: Option<&[i64]>,
-        answers: Option<&mut [i64]>,
-        table: Option<&[u8]>,
-    ) -> Outcome<Answer> {
-        let loans = Loans {
-            table,
-            list: ticks.map(wire::bytes_of_ticks),
-            written: answers.as_deref().map(wire::bytes_of_ticks),
-        };
-        let arguments = [from.into(), to.into(), 0, 0];
-        let (called, written) = self.call(wire::BATCH, arguments, loans)?;
-        fill(answers, &wire::ticks_of_bytes(&written));
-        Ok(called)
-    }
-
-    fn read_date(&mut self, (first, second): (f64, f64)) -> Outcome<Answer> {
-        let arguments = [first.to_bits(), second.to_bits(), 0, 0];
-        self.plain(wire::READ_DATE, arguments, None)
-    }
-
-    fn read_j2000(&mut self, seconds: f64) -> Outcome<Answer> {
-        let arguments = [seconds.to_bits(), 0, 0, 0];
-        self.plain(wire::READ_J2000, arguments, None)
-    }
-
-    fn tt_to_tdb(&mut self, tick: i64, table: Option<&[u8]>) -> Outcome<Answer> {
-        let arguments = [tick.cast_unsigned(), 0, 0, 0];
-        self.plain(wire::TT_TO_TDB, arguments, table)
-    }
-
-    fn tdb_to_tt(&mut self, tick: i64, table: Option<&[u8]>) -> Outcome<Answer> {
-        let arguments = [tick.cast_unsigned(), 0, 0, 0];
-        self.plain(wire::TDB_TO_TT, arguments, table)
+    fn call(&mut self, asked: Asked, lent: &Lent) -> Outcome {
+        self.called(asked, lent).map_err(|error| self.loss(error))
     }
 }

@@ -1,23 +1,18 @@
 //! Requests and answers as bytes. bridge/bridge.c tells what each means.
 
-use crate::compare::{Answer, Date, TableAnswer};
+use crate::compare::{Answer, Asked, Date, Reply, TableAnswer};
+use crate::dates::Reading;
 
-/// The functions by their numbers; function i + 1 has bit i of WHICH's answer.
-pub const WHICH: u64 = 0;
-pub const JUDGE: u64 = 1;
-pub const READ_TABLE: u64 = 2;
-pub const WRITE_TABLE: u64 = 3;
-pub const WRITE_DATE: u64 = 4;
-pub const CONVERT_TICKS: u64 = 5;
-pub const CONVERT_DATE: u64 = 6;
-pub const CONVERT_J2000: u64 = 7;
-pub const BATCH: u64 = 8;
-pub const READ_DATE: u64 = 9;
-pub const READ_J2000: u64 = 10;
-pub const TT_TO_TDB: u64 = 11;
-pub const TDB_TO_TT: u64 = 12;
-pub const LAST: u64 = TDB_TO_TT;
-pub const ALL_FUNCTIONS: u64 = (1 << LAST) - 1;
+/// The functions by their numbers. The first calls none: a bridge answers it.
+pub const NONE: u64 = 0;
+const JUDGE: u64 = 1;
+const READ_TABLE: u64 = 2;
+const WRITE_TABLE: u64 = 3;
+const WRITE_DATE: u64 = 4;
+const CONVERT_TICKS: u64 = 5;
+const CONVERT_DATE: u64 = 6;
+const CONVERT_J2000: u64 = 7;
+const BATCH: u64 = 8;
 
 /// How a place is lent.
 pub const NOTHING: u64 = 0;
@@ -50,83 +45,128 @@ pub fn numbers(bytes: &[u8]) -> impl Iterator<Item = u64> {
     bytes.chunks_exact(8).map(number)
 }
 
-pub fn bytes_of_ticks(ticks: &[i64]) -> Vec<u8> {
-    ticks.iter().flat_map(|tick| tick.to_le_bytes()).collect()
-}
-
 pub fn ticks_of_bytes(bytes: &[u8]) -> Vec<i64> {
     numbers(bytes).map(u64::cast_signed).collect()
 }
 
-/// An answer as the fields that go over the bridge.
-pub trait Wired: Sized {
-    fn fields(&self) -> Fields;
+/// What is asked, as a function's number and its plain arguments.
+pub fn numbers_of(asked: Asked) -> (u64, Arguments) {
+    match asked {
+        Asked::Judge => (JUDGE, [0; 4]),
+        Asked::ReadTable => (READ_TABLE, [0; 4]),
+        Asked::WriteTable {
+            start,
+            length,
+            count,
+            degree,
+        } => {
+            let range = [start, length].map(i64::cast_unsigned);
+            let arguments = [range[0], range[1], count.into(), degree.into()];
+            (WRITE_TABLE, arguments)
+        }
+        Asked::WriteDate { tick } => (WRITE_DATE, [tick.cast_unsigned(), 0, 0, 0]),
+        Asked::Convert { from, to, reading } => {
+            let (function, [first, second]) = match reading {
+                Reading::Ticks(tick) => (CONVERT_TICKS, [tick.cast_unsigned(), 0]),
+                Reading::TwoPart(first, second) => {
+                    (CONVERT_DATE, [first.to_bits(), second.to_bits()])
+                }
+                Reading::SinceJ2000(seconds) => (CONVERT_J2000, [seconds.to_bits(), 0]),
+            };
+            (function, [from.into(), to.into(), first, second])
+        }
+        Asked::Batch { from, to } => (BATCH, [from.into(), to.into(), 0, 0]),
+    }
+}
 
-    /// None where a field is too great for its type, or where one that the
-    /// answer does not have is not 0.
-    fn from_fields(fields: Fields) -> Option<Self>;
+/// The same back; None where no function has the number.
+pub fn asked_of(function: u64, [a, b, c, d]: Arguments) -> Option<Asked> {
+    let reading = match function {
+        CONVERT_TICKS => Some(Reading::Ticks(c.cast_signed())),
+        CONVERT_DATE => Some(Reading::TwoPart(f64::from_bits(c), f64::from_bits(d))),
+        CONVERT_J2000 => Some(Reading::SinceJ2000(f64::from_bits(c))),
+        _ => None,
+    };
+    let (from, to) = (a as u32, b as u32);
+    match (function, reading) {
+        (_, Some(reading)) => Some(Asked::Convert { from, to, reading }),
+        (JUDGE, _) => Some(Asked::Judge),
+        (READ_TABLE, _) => Some(Asked::ReadTable),
+        (WRITE_TABLE, _) => Some(Asked::WriteTable {
+            start: a.cast_signed(),
+            length: b.cast_signed(),
+            count: c as u32,
+            degree: d as u32,
+        }),
+        (WRITE_DATE, _) => Some(Asked::WriteDate {
+            tick: a.cast_signed(),
+        }),
+        (BATCH, _) => Some(Asked::Batch { from, to }),
+        _ => None,
+    }
 }
 
 fn narrow(field: u64) -> Option<u32> {
     u32::try_from(field).ok()
 }
 
-impl Wired for Answer {
-    fn fields(&self) -> Fields {
-        let (number, steps) = (self.number.into(), self.steps.into());
-        let tick = self.tick.cast_unsigned();
-        [number, steps, self.place, self.index, tick, 0]
+/// The fields of an answer, in their order; then zeros.
+pub fn fields_of(reply: &Reply) -> Fields {
+    match reply {
+        Reply::Answer(answer) => {
+            let (number, steps) = (answer.number.into(), answer.steps.into());
+            let tick = answer.tick.cast_unsigned();
+            [number, steps, answer.place, answer.index, tick, 0]
+        }
+        Reply::Date(date) => {
+            let (first, second) = (date.first.to_bits(), date.second.to_bits());
+            [date.number.into(), date.place, first, second, 0, 0]
+        }
+        Reply::Table(table) => {
+            let sizes = [table.number, table.count, table.degree].map(u64::from);
+            let range = [table.start, table.length].map(i64::cast_unsigned);
+            [
+                sizes[0],
+                sizes[1],
+                sizes[2],
+                table.place,
+                range[0],
+                range[1],
+            ]
+        }
     }
+}
 
-    fn from_fields(fields: Fields) -> Option<Answer> {
-        let [number, steps, place, index, tick, 0] = fields else {
-            return None;
-        };
-        Some(Answer {
+/// The answer to what was asked. None where a field is too great for its type,
+/// or where one that the answer does not have is not 0.
+pub fn reply_of(asked: Asked, fields: Fields) -> Option<Reply> {
+    match (asked, fields) {
+        (Asked::Judge | Asked::ReadTable, [number, count, degree, place, start, length]) => {
+            Some(Reply::Table(TableAnswer {
+                number: narrow(number)?,
+                count: narrow(count)?,
+                degree: narrow(degree)?,
+                place,
+                start: start.cast_signed(),
+                length: length.cast_signed(),
+            }))
+        }
+        (Asked::WriteDate { .. }, [number, place, first, second, 0, 0]) => {
+            Some(Reply::Date(Date {
+                number: narrow(number)?,
+                place,
+                first: f64::from_bits(first),
+                second: f64::from_bits(second),
+            }))
+        }
+        (Asked::WriteDate { .. }, _) => None,
+        (_, [number, steps, place, index, tick, 0]) => Some(Reply::Answer(Answer {
             number: narrow(number)?,
             steps: narrow(steps)?,
             place,
             index,
             tick: tick.cast_signed(),
-        })
-    }
-}
-
-impl Wired for Date {
-    fn fields(&self) -> Fields {
-        let (first, second) = (self.first.to_bits(), self.second.to_bits());
-        [self.number.into(), self.place, first, second, 0, 0]
-    }
-
-    fn from_fields(fields: Fields) -> Option<Date> {
-        let [number, place, first, second, 0, 0] = fields else {
-            return None;
-        };
-        Some(Date {
-            number: narrow(number)?,
-            place,
-            first: f64::from_bits(first),
-            second: f64::from_bits(second),
-        })
-    }
-}
-
-impl Wired for TableAnswer {
-    fn fields(&self) -> Fields {
-        let sizes = [self.number, self.count, self.degree].map(u64::from);
-        let range = [self.start, self.length].map(i64::cast_unsigned);
-        [sizes[0], sizes[1], sizes[2], self.place, range[0], range[1]]
-    }
-
-    fn from_fields(fields: Fields) -> Option<TableAnswer> {
-        let [number, count, degree, place, start, length] = fields;
-        Some(TableAnswer {
-            number: narrow(number)?,
-            count: narrow(count)?,
-            degree: narrow(degree)?,
-            place,
-            start: start.cast_signed(),
-            length: length.cast_signed(),
-        })
+        })),
+        _ => None,
     }
 }

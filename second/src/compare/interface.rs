@@ -1,5 +1,6 @@
-//! The interface: the three answers, and a desk as a set of functions.
+//! The interface: what is asked and lent, the three answers, and a desk.
 
+use crate::dates::Reading;
 use crate::desk::{BatchRefusal, Converted};
 use crate::refusal::Refusal;
 use crate::table::Judged;
@@ -64,13 +65,6 @@ impl From<Result<Converted, Refusal>> for Answer {
     }
 }
 
-/// A reading by itself: "Reading or writing a date counts no step."
-impl From<Result<i64, Refusal>> for Answer {
-    fn from(epoch: Result<i64, Refusal>) -> Answer {
-        Answer::from(epoch.map(|tick| Converted { tick, steps: 0 }))
-    }
-}
-
 /// An accepted batch answers the path's steps; "for a batch, index the entry's".
 impl From<Result<u32, BatchRefusal>> for Answer {
     fn from(answer: Result<u32, BatchRefusal>) -> Answer {
@@ -123,121 +117,86 @@ impl From<Result<(f64, f64), Refusal>> for Date {
     }
 }
 
-/// What one call did: its answer, and what it wrote that it should not have.
-#[derive(Clone, Debug, Default, PartialEq, Eq)]
-pub struct Called<T> {
-    pub answer: T,
-    pub beside: Vec<&'static str>,
+/// A function of the interface, with the arguments that are plain numbers.
+#[derive(Clone, Copy, Debug)]
+pub enum Asked {
+    Judge,
+    ReadTable,
+    WriteTable {
+        start: i64,
+        length: i64,
+        count: u32,
+        degree: u32,
+    },
+    WriteDate {
+        tick: i64,
+    },
+    /// One of the three conversions: the reading tells which.
+    Convert {
+        from: u32,
+        to: u32,
+        reading: Reading,
+    },
+    Batch {
+        from: u32,
+        to: u32,
+    },
 }
 
-impl<T> From<T> for Called<T> {
-    fn from(answer: T) -> Called<T> {
-        let beside = Vec::new();
-        Called { answer, beside }
-    }
+/// What a call is lent; what it has no use for is empty.
+#[derive(Clone, Debug, Default)]
+pub struct Lent<'a> {
+    pub table: &'a [u8],
+    /// The coefficients or ticks that are lent to be read.
+    pub list: &'a [i64],
+    /// What stands in the buffer lent to be written, before the call.
+    pub buffer: Vec<u8>,
+    /// "A null pointer is allowed where its length is 0", so the empty ones go
+    /// as null or as pointers of their own, as asked.
+    pub null: bool,
 }
 
-/// Why there is no answer.
-#[derive(Clone, Debug, PartialEq, Eq)]
-pub enum Failure {
-    /// The desk does not have this function yet.
-    Missing,
-    /// The desk broke down, and answers nothing any more.
-    Lost(String),
-}
-
-impl Failure {
-    /// Adds the call in which it happened.
-    pub fn during(self, call: impl Fn() -> String) -> Failure {
-        match self {
-            Failure::Missing => Failure::Missing,
-            Failure::Lost(what) => Failure::Lost(format!("{}: {what}", call())),
+impl Lent<'_> {
+    /// A table alone.
+    pub fn table(table: &[u8]) -> Lent<'_> {
+        Lent {
+            table,
+            ..Lent::default()
         }
     }
 }
 
-pub type Outcome<T> = Result<Called<T>, Failure>;
+/// The answer of any function.
+#[derive(Clone, Copy, Debug, PartialEq)]
+pub enum Reply {
+    Answer(Answer),
+    Date(Date),
+    Table(TableAnswer),
+}
 
-/// The functions to be compared. A lent list that is None goes as a null
-/// pointer of length 0. A desk that lacks a function leaves its method out.
-#[allow(unused_variables)]
+impl Reply {
+    pub fn number(&self) -> u32 {
+        match self {
+            Reply::Answer(answer) => answer.number,
+            Reply::Date(date) => date.number,
+            Reply::Table(table) => table.number,
+        }
+    }
+}
+
+/// What one call did: its answer, what stands in the buffer after it, and what
+/// it wrote that it should not have.
+#[derive(Clone, Debug, PartialEq)]
+pub struct Called {
+    pub reply: Reply,
+    pub buffer: Vec<u8>,
+    pub beside: Vec<&'static str>,
+}
+
+/// A desk that breaks down says why, and answers nothing any more.
+pub type Outcome = Result<Called, String>;
+
+/// The functions to be compared.
 pub trait Desk {
-    fn judge(&mut self, table: Option<&[u8]>) -> Outcome<TableAnswer> {
-        Err(Failure::Missing)
-    }
-
-    fn read_table(
-        &mut self,
-        table: Option<&[u8]>,
-        coefficients: Option<&mut [i64]>,
-    ) -> Outcome<TableAnswer> {
-        Err(Failure::Missing)
-    }
-
-    fn write_table(
-        &mut self,
-        (start, length): (i64, i64),
-        (count, degree): (u32, u32),
-        coefficients: Option<&[i64]>,
-        image: Option<&mut [u8]>,
-    ) -> Outcome<Answer> {
-        Err(Failure::Missing)
-    }
-
-    fn write_date(&mut self, tick: i64) -> Outcome<Date> {
-        Err(Failure::Missing)
-    }
-
-    fn convert_ticks(
-        &mut self,
-        (from, to): (u32, u32),
-        tick: i64,
-        table: Option<&[u8]>,
-    ) -> Outcome<Answer> {
-        Err(Failure::Missing)
-    }
-
-    fn convert_date(
-        &mut self,
-        (from, to): (u32, u32),
-        (first, second): (f64, f64),
-        table: Option<&[u8]>,
-    ) -> Outcome<Answer> {
-        Err(Failure::Missing)
-    }
-
-    fn convert_j2000(
-        &mut self,
-        (from, to): (u32, u32),
-        seconds: f64,
-        table: Option<&[u8]>,
-    ) -> Outcome<Answer> {
-        Err(Failure::Missing)
-    }
-
-    fn batch(
-        &mut self,
-        (from, to): (u32, u32),
-        ticks: Option<&[i64]>,
-        answers: Option<&mut [i64]>,
-        table: Option<&[u8]>,
-    ) -> Outcome<Answer> {
-        Err(Failure::Missing)
-    }
-
-    fn read_date(&mut self, (first, second): (f64, f64)) -> Outcome<Answer> {
-        Err(Failure::Missing)
-    }
-
-    fn read_j2000(&mut self, seconds: f64) -> Outcome<Answer> {
-        Err(Failure::Missing)
-    }
-
-    fn tt_to_tdb(&mut self, tick: i64, table: Option<&[u8]>) -> Outcome<Answer> {
-        Err(Failure::Missing)
-    }
-
-    fn tdb_to_tt(&mut self, tick: i64, table: Option<&[u8]>) -> Outcome<Answer> {
-        Err(Failure::Missing)
-    }
+    fn call(&mut self, asked: Asked, lent: &Lent) -> Outcome;
 }

@@ -1,8 +1,6 @@
 //! What one comparison saw: cases, the refusals met, the differences.
 
-use super::interface::{Called, Failure, Outcome};
 use std::collections::BTreeMap;
-use std::fmt::Debug;
 
 const SHOWN: usize = 5;
 
@@ -26,31 +24,6 @@ impl Ledger {
         self.different += 1;
         if self.first_differences.len() < SHOWN {
             self.first_differences.push(what());
-        }
-    }
-
-    /// Notes a difference unless the call gave what was expected and wrote
-    /// nothing beside it. Fails where there is no answer at all.
-    pub fn same<T: PartialEq + Debug>(
-        &mut self,
-        outcome: Outcome<T>,
-        expected: T,
-        call: impl Fn() -> String,
-    ) -> Result<(), Failure> {
-        let Called { answer, beside } = outcome.map_err(|failure| failure.during(&call))?;
-        if answer != expected {
-            self.differs(|| format!("{}: got {answer:?}, expected {expected:?}", call()));
-        }
-        for what in beside {
-            self.differs(|| format!("{}: {what}", call()));
-        }
-        Ok(())
-    }
-
-    /// Notes a difference unless the condition holds.
-    pub fn holds(&mut self, condition: bool, what: &str, call: impl Fn() -> String) {
-        if !condition {
-            self.differs(|| format!("{}: {what}", call()));
         }
     }
 

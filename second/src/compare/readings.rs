@@ -1,8 +1,9 @@
-//! The comparisons of readings by themselves: dates and seconds as ticks.
+//! The comparisons of readings by themselves: dates and seconds converted from
+//! a scale to itself, so that the reading alone decides.
 
-use super::interface::{Answer, Desk, Failure, Outcome};
-use super::ledger::Ledger;
+use super::interface::{Asked, Lent};
 use super::stage::Stage;
+use super::trial::Trial;
 use crate::dates::Reading;
 use crate::generate::{Random, read_dates, read_seconds};
 
@@ -11,36 +12,36 @@ fn how_many(stage: &Stage) -> usize {
     3 * stage.size.readings()
 }
 
-fn compare_one(
-    ledger: &mut Ledger,
+/// No step is walked, and any table will do: most often none, at times one that
+/// is accepted or refused.
+fn read(
+    stage: &Stage,
+    trial: &mut Trial,
+    random: &mut Random,
     reading: Reading,
-    outcome: Outcome<Answer>,
-) -> Result<(), Failure> {
-    let expected = Answer::from(reading.epoch());
-    ledger.count(expected.number);
-    // A double's digits do not tell which NaN it is.
-    let bits = match reading {
-        Reading::TwoPart(first, second) => vec![first.to_bits(), second.to_bits()],
-        Reading::SinceJ2000(seconds) => vec![seconds.to_bits()],
-        Reading::Ticks(_) => vec![],
+) -> Result<(), String> {
+    let code = random.index(7) as u32;
+    let (from, to) = random.pick(&[(code, code), (3, 3), (0, 3), (3, 0)]);
+    let table = match random.index(16) {
+        0 => &stage.staged[random.index(stage.staged.len())].bytes[..],
+        1 => &[1],
+        _ => &[],
     };
-    ledger.same(outcome, expected, || format!("{reading:?}, bits {bits:x?}"))
+    trial.ask(Asked::Convert { from, to, reading }, Lent::table(table))
 }
 
-pub fn read_date(desk: &mut dyn Desk, stage: &Stage, ledger: &mut Ledger) -> Result<(), Failure> {
+pub fn read_date(stage: &Stage, trial: &mut Trial) -> Result<(), String> {
     let mut random = Random::new(stage.seed ^ 0x4ead);
     for (first, second) in read_dates(&mut random, how_many(stage)) {
-        let outcome = desk.read_date((first, second));
-        compare_one(ledger, Reading::TwoPart(first, second), outcome)?;
+        read(stage, trial, &mut random, Reading::TwoPart(first, second))?;
     }
     Ok(())
 }
 
-pub fn read_j2000(desk: &mut dyn Desk, stage: &Stage, ledger: &mut Ledger) -> Result<(), Failure> {
+pub fn read_j2000(stage: &Stage, trial: &mut Trial) -> Result<(), String> {
     let mut random = Random::new(stage.seed ^ 0x5ec0);
     for seconds in read_seconds(&mut random, how_many(stage)) {
-        let outcome = desk.read_j2000(seconds);
-        compare_one(ledger, Reading::SinceJ2000(seconds), outcome)?;
+        read(stage, trial, &mut random, Reading::SinceJ2000(seconds))?;
     }
     Ok(())
 }

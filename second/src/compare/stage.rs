@@ -18,16 +18,6 @@ pub struct Staged {
     pub ticks: Vec<i64>,
 }
 
-impl Staged {
-    /// The table in a few words, for a difference that is shown.
-    pub fn told(&self) -> String {
-        match &self.judged {
-            Ok(table) => format!("S {} H {} G {}", table.start, table.length, table.count),
-            Err(refusal) => format!("refused {}", refusal.number),
-        }
-    }
-}
-
 /// How much is compared: tables, and conversions for each table.
 #[derive(Clone, Copy, Debug)]
 pub struct Size {
@@ -49,7 +39,7 @@ pub struct Stage {
     pub accepted: Vec<Table>,
     /// Every image to be judged: accepted, broken in one way, and in two.
     pub images: Vec<Vec<u8>>,
-    /// A smaller choice of images, for conversions.
+    /// A smaller choice of images, and no table at all, for conversions.
     pub staged: Vec<Staged>,
 }
 
@@ -59,8 +49,12 @@ impl Stage {
         let mut accepted = vec![blocks::judge(REAL).expect("the real table is accepted")];
         accepted.extend(accepted_tables(&mut random, size.tables));
         let mut images = Vec::new();
-        let mut chosen = vec![Vec::new()];
-        for table in &accepted {
+        let mut chosen = Vec::new();
+        for (i, table) in accepted.iter().enumerate() {
+            // No table at all, once in a while.
+            if i % 16 == 0 {
+                chosen.push(Vec::new());
+            }
             let image = blocks::image(table);
             let broken = broken_tables(&mut random, table);
             // In turn over all of them, so that every refusal is met.
@@ -99,10 +93,38 @@ fn staged(random: &mut Random, bytes: Vec<u8>) -> Staged {
     }
 }
 
-/// A code: right ones mostly, and those just and far above 6.
-pub fn any_code(random: &mut Random) -> u32 {
-    match random.index(24) {
-        0 => random.pick(&[7, 8, 255, 256, 259, 65_539, 1 << 31, u32::MAX, u32::MAX - 2]),
-        _ => random.index(7) as u32,
+/// Codes that are no scale's, just and far above 6.
+const BEYOND: [u32; 9] = [7, 8, 255, 256, 259, 65_539, 1 << 31, u32::MAX - 2, u32::MAX];
+
+/// The codes of a case: all 49 pairs of 0 to 6 in turn, then some with a code
+/// beyond these in either place or in both.
+pub fn codes_in_turn(random: &mut Random, case: u64) -> (u32, u32) {
+    let (beyond, right) = (random.pick(&BEYOND), random.index(7) as u32);
+    match case % 55 {
+        pair @ 0..49 => (pair as u32 / 7, pair as u32 % 7),
+        49 | 50 => (beyond, right),
+        51 | 52 => (right, beyond),
+        _ => (beyond, random.pick(&BEYOND)),
+    }
+}
+
+#[cfg(test)]
+mod tests {
+    use super::*;
+    use std::collections::BTreeSet;
+
+    #[test]
+    fn every_pair_of_codes_comes_and_some_beyond() {
+        let mut random = Random::new(70);
+        let codes: BTreeSet<(u32, u32)> = (0..55)
+            .map(|case| codes_in_turn(&mut random, case))
+            .collect();
+        assert!((0..49).all(|pair| codes.contains(&(pair / 7, pair % 7))));
+        let some = |wanted: &dyn Fn(bool, bool) -> bool| {
+            codes.iter().any(|(from, to)| wanted(*from > 6, *to > 6))
+        };
+        assert!(some(&|from, to| from && !to));
+        assert!(some(&|from, to| !from && to));
+        assert!(some(&|from, to| from && to));
     }
 }

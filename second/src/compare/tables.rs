@@ -1,104 +1,67 @@
 //! The comparisons of judging, reading and writing tables.
 
-use super::buffers::{blank_bytes, blank_ticks, lend, lend_mut};
-use super::interface::{Answer, Desk, Failure, TableAnswer};
-use super::ledger::Ledger;
+use super::buffers::{blank, blank_ticks};
+use super::interface::{Asked, Lent};
 use super::stage::Stage;
+use super::trial::Trial;
 use crate::blocks::{self, BLOCK};
-use crate::desk::Converted;
 use crate::generate::Random;
-use crate::refusal::Refusal;
 use crate::scales::GREATEST_EPOCH;
 use crate::table::{GREATEST_COEFFICIENT, GREATEST_COUNT, GREATEST_LENGTH, LEAST_LENGTH, Table};
 
-pub fn judge(desk: &mut dyn Desk, stage: &Stage, ledger: &mut Ledger) -> Result<(), Failure> {
-    for (case, image) in stage.images.iter().enumerate() {
-        let expected = TableAnswer::from(&blocks::judge(image));
-        ledger.count(expected.number);
-        let outcome = desk.judge(lend(image, case % 2 == 0));
-        ledger.same(outcome, expected, || format!("image {case}"))?;
+pub fn judge(stage: &Stage, trial: &mut Trial) -> Result<(), String> {
+    for table in &stage.images {
+        trial.ask(Asked::Judge, Lent::table(table))?;
     }
     Ok(())
 }
 
-pub fn read_table(desk: &mut dyn Desk, stage: &Stage, ledger: &mut Ledger) -> Result<(), Failure> {
-    for (case, image) in stage.images.iter().enumerate() {
-        let right = match blocks::judge(image) {
+pub fn read_table(stage: &Stage, trial: &mut Trial) -> Result<(), String> {
+    for (case, table) in stage.images.iter().enumerate() {
+        let right = match blocks::judge(table) {
             Ok(table) => table.coefficients.len(),
             Err(_) => case % 7,
         };
         for length in [right, right + 1, right.saturating_sub(1), 0] {
-            let expected = blocks::read(image, length);
-            let answer = TableAnswer::from(&expected);
-            let null = case % 2 == 0;
-            let mut list = blank_ticks(length);
-            ledger.count(answer.number);
-            let outcome = desk.read_table(lend(image, null), lend_mut(&mut list, null));
-            let call = || format!("image {case} into {length} coefficients");
-            ledger.same(outcome, answer, call)?;
-            let right = match expected {
-                Ok(table) => table.coefficients,
-                Err(_) => blank_ticks(length),
+            let lent = Lent {
+                buffer: blank_ticks(length),
+                ..Lent::table(table)
             };
-            ledger.holds(list == right, "the lent list is not as it should be", call);
+            trial.ask(Asked::ReadTable, lent)?;
         }
     }
     Ok(())
 }
 
-pub fn write_table(desk: &mut dyn Desk, stage: &Stage, ledger: &mut Ledger) -> Result<(), Failure> {
+pub fn write_table(stage: &Stage, trial: &mut Trial) -> Result<(), String> {
     let mut random = Random::new(stage.seed ^ 0x77);
     for table in &stage.accepted {
         let size = blocks::image(table).len();
         for length in [size, size - 1, size + 1, size - BLOCK, size + BLOCK, 0] {
-            write_one(ledger, desk, table, length)?;
+            write_one(trial, table, length)?;
         }
         for changed in changed_tables(&mut random, table) {
             let fitting = blocks::blocks_needed(changed.count) as usize * BLOCK;
             // A count near 2^32 would want gigabytes; it gets a small buffer.
-            write_one(ledger, desk, &changed, fitting.min(200 * BLOCK))?;
+            write_one(trial, &changed, fitting.min(200 * BLOCK))?;
         }
     }
     Ok(())
 }
 
-fn write_one(
-    ledger: &mut Ledger,
-    desk: &mut dyn Desk,
-    table: &Table,
-    length: usize,
-) -> Result<(), Failure> {
-    let expected = blocks::write(table, length);
-    let nothing = Converted { tick: 0, steps: 0 };
-    let answer = Answer::from(expected.as_ref().map(|_| nothing).map_err(|r: &Refusal| *r));
-    let null = ledger.cases.is_multiple_of(2);
-    let mut image = blank_bytes(length);
-    ledger.count(answer.number);
-    let outcome = desk.write_table(
-        (table.start, table.length),
-        (table.count, table.degree),
-        lend(&table.coefficients, null),
-        lend_mut(&mut image, null),
-    );
-    let call = || {
-        let Table {
-            start,
-            length: h,
-            count,
-            degree,
-            ..
-        } = table;
-        let coefficients = table.coefficients.len();
-        format!("S {start} H {h} G {count} n {degree}, {coefficients} coefficients, {length} bytes")
+fn write_one(trial: &mut Trial, table: &Table, length: usize) -> Result<(), String> {
+    let asked = Asked::WriteTable {
+        start: table.start,
+        length: table.length,
+        count: table.count,
+        degree: table.degree,
     };
-    ledger.same(outcome, answer, call)?;
-    let right = expected.unwrap_or_else(|_| blank_bytes(length));
-    ledger.holds(
-        image == right,
-        "the lent image is not as it should be",
-        call,
-    );
-    Ok(())
+    let lent = Lent {
+        list: &table.coefficients,
+        buffer: blank(length),
+        ..Lent::default()
+    };
+    trial.ask(asked, lent)
 }
 
 /// The table with one number changed: at and past every bound, and lists that

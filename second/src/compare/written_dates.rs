@@ -1,20 +1,18 @@
 //! The comparison of writing a tick as a date.
 
-use super::interface::{Date, Desk, Failure};
-use super::ledger::Ledger;
+use super::interface::{Asked, Lent};
 use super::stage::Stage;
+use super::trial::Trial;
 use crate::dates;
 use crate::generate::{Random, edge_ticks, random_tick};
 
-pub fn write_date(desk: &mut dyn Desk, stage: &Stage, ledger: &mut Ledger) -> Result<(), Failure> {
+pub fn write_date(stage: &Stage, trial: &mut Trial) -> Result<(), String> {
     let mut random = Random::new(stage.seed ^ 0xda7e);
     let mut ticks = edge_ticks();
     ticks.extend(day_ends(&mut random));
     ticks.extend((0..stage.size.readings()).map(|_| random_tick(&mut random)));
     for tick in ticks {
-        let expected = Date::from(dates::write_date(tick));
-        ledger.count(expected.number);
-        ledger.same(desk.write_date(tick), expected, || format!("tick {tick}"))?;
+        trial.ask(Asked::WriteDate { tick }, Lent::default())?;
     }
     Ok(())
 }

@@ -1,0 +1,52 @@
+-- `desk::conversion::convert_judged` meets its contract. Assumes nothing.
+use borrow.Author.Needs.{needs}
+use mathlib.Core.Path.{sym, _∙_}
+use Rattle.desk.proofs.Asking.{by-asked}
+use Rattle.desk.proofs.Opening.{nothing-held}
+use Rattle.desk.proofs.conversion.convert_judged.Statement.{statement}
+use Rattle.desk.proofs.conversion.convert_judged.Tie as tie
+
+asked-of-requires : tie.Need-asked-of-requires
+asked-of-requires c κs = search needs
+
+enum-known-start : tie.Need-enum-known-start
+enum-known-start c = search needs
+
+slice-aggregate-between : tie.Need-slice-aggregate-between
+slice-aggregate-between c = search needs
+
+between-requires : tie.Need-between-requires
+between-requires c κs = nothing-held _
+
+enum-known-start-2 : tie.Need-enum-known-start-2
+enum-known-start-2 c = search needs
+
+crossed-requires : tie.Need-crossed-requires
+crossed-requires c κs = search needs
+
+enum-known-refusal : tie.Need-enum-known-refusal
+enum-known-refusal c = search needs
+
+returns : tie.Need-returns
+returns c = c .between .ensures ∙ sym (by-asked _ _ _ _ (sym (c .before .before .before .before .before .asked-of .ensures) ∙ c .before .before .before .start .given .1) _ _)
+
+returns-2 : tie.Need-returns-2
+returns-2 c = c .crossed .ensures ∙ sym (by-asked _ _ _ _ (sym (c .before .before .before .before .asked-of .ensures) ∙ c .before .before .start2 .given .1) _ _)
+
+returns-3 : tie.Need-returns-3
+returns-3 c = sym (by-asked _ _ _ _ (sym (c .before .before .before .asked-of .ensures) ∙ c .before .refusal .given .1) _ _)
+
+pub convert-judged-spec : {M : Type 1} → statement M
+convert-judged-spec =
+    tie.close
+    (tie.spec
+    asked-of-requires
+    enum-known-start
+    slice-aggregate-between
+    between-requires
+    enum-known-start-2
+    crossed-requires
+    enum-known-refusal
+    returns
+    returns-2
+    returns-3)

@@ -1,0 +1,57 @@
+-- `desk::opened::taken` meets its contract: the coefficients are taken into the front of the room. Assumes nothing.
+use borrow.Author.Needs.{needs}
+use mathlib.Core.Path.{sym, _∙_, ap}
+use native.Mathlib.Omega.{arith}
+use lib.ListN.{length, length-append}
+use lib.Seq.{length-take-le, take-at}
+use Rattle.blocks.proofs.Accepting.{accepted-told}
+use Rattle.ephemeris.proofs.Judging.{whole-list}
+use Rattle.desk.proofs.Opening.{few, enough}
+use Rattle.desk.proofs.opened.taken.Statement.{statement}
+use Rattle.desk.proofs.opened.taken.Tie as tie
+
+how-many-requires : tie.Need-how-many-requires
+how-many-requires c κs = few _ _ (c .before .pre .accepted)
+
+room-requires : tie.Need-room-requires
+room-requires c κs = search needs
+
+cast-take-coefficients : tie.Need-cast-take-coefficients
+cast-take-coefficients c = search needs
+
+cast-take-coefficients-2 : tie.Need-cast-take-coefficients-2
+cast-take-coefficients-2 c = search needs
+
+array-borrow-prefix-coefficients : tie.Need-array-borrow-prefix-coefficients
+array-borrow-prefix-coefficients c =
+    let s = c .before .before .before .before .before in
+    omega (arith, enough _ (few _ _ (s .pre .accepted)), c .before .before .room .ok, c .before .before .before .how-many .ensures)
+
+slice-aggregate-take-coefficients : tie.Need-slice-aggregate-take-coefficients
+slice-aggregate-take-coefficients c = sym (length-take-le _ _ (array-borrow-prefix-coefficients (c .before)))
+
+take-coefficients-requires : tie.Need-take-coefficients-requires
+take-coefficients-requires c κs =
+    let h = c .before .before .before .before in
+    let a = accepted-told _ _ (h .before .before .pre .accepted) in
+    record { granules = a .granules; degree = a .degree; blocks = a .blocks; long = length-take-le _ _ (array-borrow-prefix-coefficients (c .before)) ∙ h .how-many .ensures }
+
+returns : tie.Need-returns
+returns c =
+    let l = c .before .take-coefficients in
+    let is = l .ensures in
+    let size = ap length is ∙ whole-list _ _ _ in
+    record { long = simp length-append (omega (arith, size)); front = take-at (l .last .1 .1 .1 .0) _ _ size ∙ is }
+
+pub taken-spec : {M : Type 1} → statement M
+taken-spec =
+    tie.close
+    (tie.spec
+    how-many-requires
+    room-requires
+    cast-take-coefficients
+    cast-take-coefficients-2
+    array-borrow-prefix-coefficients
+    slice-aggregate-take-coefficients
+    take-coefficients-requires
+    returns)

@@ -1,0 +1,60 @@
+-- `desk::step::to_tdb` meets its contract: a table that is kept was accepted, and the step over it is the ephemeris'. Assumes nothing.
+use borrow.Author.Needs.{needs}
+use mathlib.Core.Path.{_≡_, sym, _∙_}
+use mir.Syntax.{w64}
+use mir.ValLaws.{toZ-ofZ}
+use Rattle.ephemeris.specs.declared.over.TdbByTable.{TdbByTable}
+use Rattle.ephemeris.specs.Steps.{tdbStep}
+use Rattle.desk.proofs.step.to_tdb.Statement.{statement}
+use Rattle.desk.proofs.step.to_tdb.Tie as tie
+
+-- the step itself, of the tick as it was given
+told : (c : tie.After-to-tdb) {answer : TdbByTable} → c .to-tdb .result ≡ answer → tdbStep (c .before .before .kept .given .0 .0) (c .before .before .before .before .args .coefficients .now) (c .before .before .before .before .args .tick) ≡ answer
+told c e = sym (rw (toZ-ofZ w64 _ (c .before .before .before .before .fits .tick)) at (c .to-tdb .ensures)) ∙ e
+
+enum-told : tie.Need-enum-told
+enum-told c = search needs
+
+enum-known-kept : tie.Need-enum-known-kept
+enum-known-kept c = search needs
+
+to-tdb-requires : tie.Need-to-tdb-requires
+to-tdb-requires c κs = c .before .before .before .pre .accepted _ (c .before .kept .given .1)
+
+enum-known-tdb : tie.Need-enum-known-tdb
+enum-known-tdb c = search needs
+
+enum-told-2 : tie.Need-enum-told-2
+enum-told-2 c = search needs
+
+enum-told-3 : tie.Need-enum-told-3
+enum-told-3 c = search needs
+
+returns : tie.Need-returns
+returns c = search needs
+
+returns-2 : tie.Need-returns-2
+returns-2 c =
+    let a = c .before .before .before .before in
+    rw (a .before .before .kept .given .1, told a (c .before .before .tdb .given .1), toZ-ofZ w64 _ (record { sfits = c .struct-told .given .0 .1 }))
+
+returns-3 : tie.Need-returns-3
+returns-3 c = rw (c .before .before .before .before .kept .given .1, told (c .before .before) (c .enum-told2 .given .1))
+
+returns-4 : tie.Need-returns-4
+returns-4 c = rw (c .before .before .before .before .kept .given .1, told (c .before .before) (c .enum-told3 .given .1))
+
+pub to-tdb-spec : {M : Type 1} → statement M
+to-tdb-spec =
+    tie.close
+    (tie.spec
+    enum-told
+    enum-known-kept
+    to-tdb-requires
+    enum-known-tdb
+    enum-told-2
+    enum-told-3
+    returns
+    returns-2
+    returns-3
+    returns-4)

@@ -1,0 +1,5 @@
+pub mod Asked
+pub mod Walk
+pub mod Conversion
+pub mod Batch
+pub mod Inner

@@ -1,0 +1,19 @@
+-- `hosts::conversions::colliedash_convert_date` meets its contract. Assumes nothing.
+use borrow.Author.Needs.{needs}
+use mathlib.Core.Path.{_∙_, ap}
+use Rattle.hosts.specs.Conversions.{convertedAnswer}
+use Rattle.hosts.proofs.conversions.colliedash_convert_date.Statement.{statement}
+use Rattle.hosts.proofs.conversions.colliedash_convert_date.Tie as tie
+
+convert-requires : tie.Need-convert-requires
+convert-requires c κs = search needs
+
+converted-answer-requires : tie.Need-converted-answer-requires
+converted-answer-requires c κs = search needs
+
+returns : tie.Need-returns
+returns c = c .converted-answer .ensures ∙ ap convertedAnswer (c .before .convert .ensures)
+
+pub colliedash-convert-date-spec : {M : Type 1} → statement M
+colliedash-convert-date-spec =
+    tie.close (tie.spec convert-requires converted-answer-requires returns)

@@ -1,0 +1,4 @@
+pub mod Words
+pub mod Reasons
+pub mod Known
+pub mod Moments

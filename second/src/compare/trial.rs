@@ -1,0 +1,89 @@
+//! A desk on trial: it is asked what second is asked, and every difference is
+//! noted.
+
+use super::interface::{Asked, Called, Desk, Lent};
+use super::ledger::Ledger;
+use super::own::Own;
+use crate::dates::Reading;
+use crate::generate::Random;
+
+/// So much of a lent list is shown with a difference.
+const SHOWN: usize = 8;
+
+pub struct Trial<'a> {
+    desk: &'a mut dyn Desk,
+    own: Own,
+    random: Random,
+    pub ledger: Ledger,
+}
+
+impl<'a> Trial<'a> {
+    pub fn new(desk: &'a mut dyn Desk) -> Trial<'a> {
+        Trial {
+            desk,
+            own: Own::default(),
+            random: Random::new(0),
+            ledger: Ledger::default(),
+        }
+    }
+
+    /// Makes one call of both, by null pointers or not. Fails where there is no
+    /// answer at all.
+    pub fn ask(&mut self, asked: Asked, mut lent: Lent) -> Result<(), String> {
+        lent.null = self.random.one_in(2);
+        let expected = self.own.call(asked, &lent)?;
+        self.ledger.count(expected.reply.number());
+        let outcome = self.desk.call(asked, &lent);
+        let case = self.ledger.cases;
+        let told = |own: &mut Own| format!("case {case}, {}", told(own, asked, &lent));
+        let called = outcome.map_err(|why| format!("{}: {why}", told(&mut self.own)))?;
+        for what in differences(&called, &expected) {
+            let own = &mut self.own;
+            self.ledger.differs(|| format!("{}: {what}", told(own)));
+        }
+        Ok(())
+    }
+}
+
+fn differences(called: &Called, expected: &Called) -> Vec<String> {
+    let mut list = Vec::new();
+    if called.reply != expected.reply {
+        list.push(format!(
+            "got {:?}, expected {:?}",
+            called.reply, expected.reply
+        ));
+    }
+    if called.buffer != expected.buffer {
+        list.push("the lent buffer is not as it should be".into());
+    }
+    list.extend(called.beside.iter().map(|what| what.to_string()));
+    list
+}
+
+/// The call in a few words.
+fn told(own: &mut Own, asked: Asked, lent: &Lent) -> String {
+    let table = match own.judged(lent.table) {
+        Ok(table) => format!("S {} H {} G {}", table.start, table.length, table.count),
+        Err(refusal) => format!("refused {}", refusal.number),
+    };
+    // A double's digits do not tell which NaN it is.
+    let bits = match asked {
+        Asked::Convert {
+            reading: Reading::TwoPart(first, second),
+            ..
+        } => vec![first.to_bits(), second.to_bits()],
+        Asked::Convert {
+            reading: Reading::SinceJ2000(seconds),
+            ..
+        } => vec![seconds.to_bits()],
+        _ => vec![],
+    };
+    let list = &lent.list[..lent.list.len().min(SHOWN)];
+    format!(
+        "{asked:?} bits {bits:x?}, table of {} bytes ({table}), list of {} ({list:?}), \
+         buffer of {} bytes",
+        lent.table.len(),
+        lent.list.len(),
+        lent.buffer.len()
+    )
+}
