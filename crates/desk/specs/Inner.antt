@@ -2,8 +2,8 @@
 use mathlib.Core.Path.{_≡_}
 use mathlib.Core.List.{List, map}
 use Prim.Native.Nat.{ℕ, _+_, _*_, _≤_}
-use lib.IntN.{ℤ}
-use lib.ListN.{length, take}
+use lib.IntN.{ℤ, pos}
+use lib.ListN.{length, take, drop, replicate}
 use Rattle.scales.specs.declared.answer.Answer.{Answer}
 use Rattle.scales.specs.declared.scale.Scale.{Scale}
 use Rattle.scales.specs.declared.steps.GpsStep.{GpsStep}
@@ -56,10 +56,11 @@ pub record Few (table : Table) : Type 0 where
 abbrev pub howMany : Table → ℕ
 howMany table = table .count * (table .degree + 1)
 
--- the coefficients at the front of a list
+-- the coefficients at the front of a room of 5760, and zeros behind
 pub record Taken (bytes : List ℕ) (table : Table) (room : List ℤ) : Type 0 where
   pub long : howMany table ≤ length room
   pub front : take (howMany table) room ≡ coefficientsOf bytes (table .count) (table .degree)
+  pub behind : drop (howMany table) room ≡ drop (howMany table) (replicate 5760 (pos 0))
 
 -- ---- a step's answer in the neighbour's struct, on the walk
 abbrev pub fromGps : GpsStep → Stepped

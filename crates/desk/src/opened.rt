@@ -2,6 +2,8 @@
 use image::table::Table;
 use image::take::take_coefficients;
 ghost use mathlib.Core.Path.{_≡_};
+ghost use lib.IntN.{pos};
+ghost use lib.ListN.{replicate};
 ghost use Rattle.desk.specs.Inner.{Few, Opened, Taken, howMany};
 
 // How many coefficients a table has, G·(n+1). Within its bounds that is at most 360·16.
@@ -13,11 +15,13 @@ pub fn how_many(table: Table) -> usize
 }
 
 // Room for the coefficients of the largest table. A function of its own, so that no other function's proof unrolls so long a literal.
-fn room() -> [i64; 5760] {
+fn room() -> [i64; 5760]
+    ensures { λ r. ⌜ r ≡ replicate 5760 (pos 0) ⌝ }
+{
     [0i64; 5760]
 }
 
-// The coefficients, at the front of the room. The bytes have been judged and accepted.
+// The coefficients, at the front of the room, and zeros behind. The bytes have been judged and accepted.
 pub fn taken(bytes: &[u8], table: Table) -> [i64; 5760]
     requires { ⌜ Opened (now bytes) table ⌝ }
     ensures { λ r. ⌜ Taken (now (bytes .entry)) table r ⌝ }

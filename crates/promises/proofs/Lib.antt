@@ -4,9 +4,11 @@
 --
 -- Demand 2. The known values P1 to P13, one table and one statement: `Known` (known). What an accepted answer carries: `Answers` (tick-valid, scale-told,
 -- steps-told). What a batch is, entry by entry: `BatchTheorems` of `desk`. What is shut out: `Exclusions` (two-answers,
--- batch-of-two). Only one answer: `Determined`.
+-- batch-of-two).
 --
 -- Demand 1. Each conversion is answered or refused, with which numbers and which places: `Refusals`; why: `Reasons` (because).
+--
+-- What every contract says. Only one result and one last content of each lent buffer, of every public function: `Determined`.
 --
 -- What they rest on: `Steps` has the law of each single step, `Walks` takes a conversion apart into its walk, `Readings` says what a reading can be.
 pub mod Readings

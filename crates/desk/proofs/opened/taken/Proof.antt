@@ -1,9 +1,9 @@
 -- `desk::opened::taken` meets its contract: the coefficients are taken into the front of the room. Assumes nothing.
 use borrow.Author.Needs.{needs}
-use mathlib.Core.Path.{sym, _∙_, ap}
+use mathlib.Core.Path.{sym, _∙_, ap, ap₂}
 use native.Mathlib.Omega.{arith}
-use lib.ListN.{length, length-append}
-use lib.Seq.{length-take-le, take-at}
+use lib.ListN.{length, drop, length-append}
+use lib.Seq.{length-take-le, take-at, drop-at}
 use Rattle.blocks.proofs.Accepting.{accepted-told}
 use Rattle.ephemeris.proofs.Judging.{whole-list}
 use Rattle.desk.proofs.Opening.{few, enough}
@@ -39,9 +39,14 @@ take-coefficients-requires c κs =
 returns : tie.Need-returns
 returns c =
     let l = c .before .take-coefficients in
+    let h = c .before .before .before .before .before in
     let is = l .ensures in
     let size = ap length is ∙ whole-list _ _ _ in
-    record { long = simp length-append (omega (arith, size)); front = take-at (l .last .1 .1 .1 .0) _ _ size ∙ is }
+    record {
+      long = simp length-append (omega (arith, size));
+      front = take-at (l .last .1 .1 .1 .0) _ _ size ∙ is;
+      behind = drop-at (l .last .1 .1 .1 .0) _ _ size ∙ ap₂ drop (h .before .how-many .ensures) (h .room .ensures);
+    }
 
 pub taken-spec : {M : Type 1} → statement M
 taken-spec =

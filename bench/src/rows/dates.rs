@@ -1,0 +1,108 @@
+//! Dates read and written, a call each on every side.
+
+use super::{ROUNDS, print_row};
+use crate::inputs::at_random;
+use crate::plain::dates::{read, write};
+use crate::timing::Side;
+use crate::{ours, plain_c};
+
+const MANY: usize = 100_000;
+
+/// All sides write each tick alike, and read what was written alike, and refuse alike what is no date.
+fn compare(ticks: &[i64]) {
+    for tick in ticks.iter().copied().chain([i64::MIN, i64::MAX]) {
+        let ours = ours::write_date(tick);
+        assert_eq!(ours, plain_c::plain_write_date(tick));
+        let rust = write(tick);
+        let dated = |(first, second)| (0, first, second);
+        let rust = rust.map_or_else(|refusal| (refusal.number, 0.0, 0.0), dated);
+        assert_eq!((ours.number, ours.first, ours.second), rust);
+        compare_read(ours.first, ours.second);
+    }
+    let odd = [
+        0.0,
+        -0.3,
+        5e-324,
+        2443144.5,
+        -5e6,
+        5_000_000.1,
+        f64::NAN,
+        f64::INFINITY,
+    ];
+    for first in odd {
+        for second in odd {
+            compare_read(first, second);
+        }
+    }
+}
+
+fn compare_read(first: f64, second: f64) {
+    let ours = ours::read_date(first, second);
+    let told = (ours.number, ours.place, ours.tick);
+    let rust = read(first, second);
+    let c = plain_c::plain_read_date(first, second);
+    let read = |tick| (0, 0, tick);
+    assert_eq!(told, rust.map_or_else(|r| (r.number, r.place, 0), read));
+    assert_eq!(told, (c.number, c.place, c.tick));
+}
+
+/// Hands every entry to one side and keeps what a host wants of the answer.
+fn each<'a, I: Copy, O>(
+    given: &'a [I],
+    kept: &'a mut [O],
+    side: impl Fn(I) -> Option<O> + 'a,
+) -> Side<'a> {
+    Box::new(move || {
+        for (kept, given) in kept.iter_mut().zip(given) {
+            *kept = side(*given).expect("an accepted one");
+        }
+    })
+}
+
+fn accepted<T>(number: u32, answer: T) -> Option<T> {
+    (number == 0).then_some(answer)
+}
+
+pub fn rows() {
+    let ticks = at_random(MANY, -6_000_000_000_000_000_000, 6_000_000_000_000_000_001);
+    compare(&ticks);
+    let dates: Vec<(f64, f64)> = ticks.iter().map(|tick| write(*tick).unwrap()).collect();
+
+    let mut kept = [(); 3].map(|_| ticks.clone());
+    let [a, b, c] = &mut kept;
+    print_row(
+        "reading a two-part date",
+        MANY,
+        ROUNDS,
+        vec![
+            each(&dates, a, |(first, second)| {
+                let read = ours::read_date(first, second);
+                accepted(read.number, read.tick)
+            }),
+            each(&dates, b, |(first, second)| read(first, second).ok()),
+            each(&dates, c, |(first, second)| {
+                let read = plain_c::plain_read_date(first, second);
+                accepted(read.number, read.tick)
+            }),
+        ],
+    );
+
+    let mut kept = [(); 3].map(|_| dates.clone());
+    let [a, b, c] = &mut kept;
+    print_row(
+        "writing a date",
+        MANY,
+        ROUNDS,
+        vec![
+            each(&ticks, a, |tick| {
+                let date = ours::write_date(tick);
+                accepted(date.number, (date.first, date.second))
+            }),
+            each(&ticks, b, |tick| write(tick).ok()),
+            each(&ticks, c, |tick| {
+                let date = plain_c::plain_write_date(tick);
+                accepted(date.number, (date.first, date.second))
+            }),
+        ],
+    );
+}

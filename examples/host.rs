@@ -1,0 +1,155 @@
+//! A host in Rust: it judges a table, converts, runs a batch and shows two refusals. The table's file is its one argument.
+
+use std::ptr::null;
+
+const GPS: u32 = 1;
+const TT: u32 = 3;
+const TDB: u32 = 5;
+const TCB: u32 = 6;
+
+#[repr(C)]
+struct Answer {
+    number: u32,
+    steps: u32,
+    place: u64,
+    index: u64,
+    tick: i64,
+}
+
+#[repr(C)]
+struct Date {
+    number: u32,
+    place: u64,
+    first: f64,
+    second: f64,
+}
+
+#[repr(C)]
+struct Table {
+    number: u32,
+    count: u32,
+    degree: u32,
+    place: u64,
+    start: i64,
+    length: i64,
+}
+
+// As include/colliedash.h declares them. A length is that of the slice whose pointer stands before it.
+#[link(name = "hosts", kind = "static")]
+unsafe extern "C" {
+    fn colliedash_judge(table: *const u8, table_len: usize) -> Table;
+    safe fn colliedash_write_date(tick: i64) -> Date;
+    fn colliedash_convert_ticks(
+        from: u32,
+        to: u32,
+        tick: i64,
+        table: *const u8,
+        table_len: usize,
+    ) -> Answer;
+    fn colliedash_convert_date(
+        from: u32,
+        to: u32,
+        first: f64,
+        second: f64,
+        table: *const u8,
+        table_len: usize,
+    ) -> Answer;
+    fn colliedash_batch(
+        from: u32,
+        to: u32,
+        ticks: *const i64,
+        ticks_len: usize,
+        answers: *mut i64,
+        answers_len: usize,
+        table: *const u8,
+        table_len: usize,
+    ) -> Answer;
+}
+
+/// A batch: the path's steps, or the refusal.
+fn batch(
+    from: u32,
+    to: u32,
+    ticks: &[i64],
+    answers: &mut [i64],
+    table: &[u8],
+) -> Result<u32, Answer> {
+    let answer = unsafe {
+        colliedash_batch(
+            from,
+            to,
+            ticks.as_ptr(),
+            ticks.len(),
+            answers.as_mut_ptr(),
+            answers.len(),
+            table.as_ptr(),
+            table.len(),
+        )
+    };
+    if answer.number == 0 {
+        Ok(answer.steps)
+    } else {
+        Err(answer)
+    }
+}
+
+fn refused(what: &str, answer: Answer) {
+    let Answer {
+        number,
+        place,
+        index,
+        ..
+    } = answer;
+    println!("{what}: refused {number}, place {place}, entry {index}");
+}
+
+fn main() {
+    let path = std::env::args().nth(1).expect("usage: host TABLE");
+    let table = std::fs::read(path).expect("a table's file");
+
+    let judged = unsafe { colliedash_judge(table.as_ptr(), table.len()) };
+    println!(
+        "table: number {}, {} granules of {} ticks, degree {}, from TT {}",
+        judged.number, judged.count, judged.length, judged.degree, judged.start
+    );
+
+    // No step of this path crosses the table, so none is lent.
+    let answer = unsafe { colliedash_convert_ticks(TCB, TDB, 100_000_000_000_000_000, null(), 0) };
+    println!(
+        "TCB 100000000000000000 is TDB {}, {} step",
+        answer.tick, answer.steps
+    );
+
+    let answer =
+        unsafe { colliedash_convert_date(GPS, TDB, 2461112.5, 0.75, table.as_ptr(), table.len()) };
+    println!(
+        "GPS 2461112.5 + 0.75 is TDB {}, {} steps",
+        answer.tick, answer.steps
+    );
+
+    let date = colliedash_write_date(answer.tick);
+    println!("which is the date {:.1} + {:.15}", date.first, date.second);
+
+    // Who buzzed first? Three crews, all tagged by GPS.
+    let mut buzzes = [
+        1600000000000000007,
+        1600000000000000000,
+        1600000000250000000,
+    ];
+    let mut answers = [-1; 3];
+    if let Ok(steps) = batch(GPS, TCB, &buzzes, &mut answers, &table) {
+        let [a, b, c] = answers;
+        println!("batch of GPS to TCB, {steps} steps: {a} {b} {c}");
+    }
+
+    let outside = unsafe { colliedash_convert_ticks(TT, TDB, 0, table.as_ptr(), table.len()) };
+    refused("TT 0 to TDB", outside);
+
+    // One bad entry, and nothing is written.
+    buzzes[2] = i64::MAX;
+    answers[0] = -1;
+    if let Err(answer) = batch(GPS, TCB, &buzzes, &mut answers, &table) {
+        refused("batch", answer);
+        println!("its first answer is still {}", answers[0]);
+    }
+}
