@@ -20,6 +20,7 @@ use Rattle.blocks.specs.declared.granules.Scan.{Scan}
 use Rattle.blocks.specs.Answers.{refusing}
 use Rattle.blocks.specs.Tests.{Test, test, judgedBy, isJoin, isLightIn, granuleTests}
 use Rattle.blocks.specs.Pass.{onward, scanNext, scanEnd}
+use Rattle.blocks.proofs.Alike.{Alike, alike-weight}
 use Rattle.blocks.proofs.Verdicts.{stops, goes, none-left}
 
 -- a run, with one place more
@@ -67,17 +68,17 @@ pub was-large : (v : Bool) (x : Scan) → cond v (Onward x) Large ≡ Large → 
 was-large true x e = let z : _≡_ {A = ℕ} 0 1 = cc in let w : ⊥ = omega arith in absurd w
 was-large false x e = refl
 
-module _ (granule : ℕ → List ℤ) (H g : ℕ) (scan : Scan) (c : List ℤ) (here : c ≡ granule g) (sc : Scanned granule H g scan) where
+module _ (granule : ℕ → List ℤ) (H g : ℕ) (scan : Scan) (c : List ℤ) (here : Alike c (granule g)) (sc : Scanned granule H g scan) where
   pub scanned-next : (s : Scan) → scanNext scan g c H ≡ Onward s → Scanned granule H (g + 1) s
   unfolding scanNext
   scanned-next s e =
       let w = went-on (isSmall c) _ s e in
       subst (λ (z : Scan). Scanned granule H (g + 1) z) (w .1)
       (record {
-        light = run-is (λ k. isLight (weightOf (granule k)) H) g (scan .light) _ (sc .light) (ap (λ (l : List ℤ). isLight (weightOf l) H) here);
-        joined = run-is (isJoin granule) g (scan .joined) _ (sc .joined) (ap (λ (l : List ℤ). eqb g 0 || isJoined (scan .plain .0) (alternatingSum l)) here ∙ join-is granule (scan .plain .0) g (sc .plain));
-        plain = λ k z. ap plainSum here ∙ ap (λ (n : ℕ). plainSum (granule n)) (same k z);
-        small = below-more _ _ (sc .small) (ap isSmall (sym here) ∙ w .0);
+        light = run-is (λ k. isLight (weightOf (granule k)) H) g (scan .light) _ (sc .light) (ap (λ (w : ℕ). isLight w H) (alike-weight here));
+        joined = run-is (isJoin granule) g (scan .joined) _ (sc .joined) (ap (λ (z : ℤ). eqb g 0 || isJoined (scan .plain .0) z) (here .alternating) ∙ join-is granule (scan .plain .0) g (sc .plain));
+        plain = λ k z. here .plain ∙ ap (λ (n : ℕ). plainSum (granule n)) (same k z);
+        small = below-more _ _ (sc .small) (sym (here .small) ∙ w .0);
       })
     where
       same : (k : ℕ) → g + 1 ≡ suc k → g ≡ k
@@ -87,7 +88,7 @@ module _ (granule : ℕ → List ℤ) (H g : ℕ) (scan : Scan) (c : List ℤ) (
   unfolding scanNext
   refused-large t h e =
       stops 14 (t .count) (λ k. isSmall (granule k)) _ t g
-      (first-is (λ k. isSmall (granule k)) (t .count) g (record { within = under h; before = sc .small; found = λ _. ap isSmall (sym here) ∙ was-large (isSmall c) _ e })) h
+      (first-is (λ k. isSmall (granule k)) (t .count) g (record { within = under h; before = sc .small; found = λ _. sym (here .small) ∙ was-large (isSmall c) _ e })) h
     where
       under : {a b : ℕ} → a < b → a ≤ b
       under l = omega arith

@@ -2,11 +2,13 @@
 use mathlib.Core.Path.{_≡_}
 use mathlib.Core.Bool.{Bool, true, cond, _&&_, _||_}
 use mathlib.Core.List.{List}
-use Prim.Native.Nat.{ℕ, _+_, _*_, _≤_}
+use Prim.Native.Nat.{ℕ, _+_, _*_, _≤_, _<_}
 use lib.Dec.{ltb, eqb}
 use lib.IntN.{ℤ}
 use lib.ListN.{length}
 use Rattle.granule.specs.Tests.{isSmall, weightOf, isLight, plainSum, alternatingSum, isJoined}
+use Rattle.image.specs.Words.{block}
+use Rattle.image.specs.Form.{isFormed}
 use Rattle.image.specs.Image.{blocksOf}
 use Rattle.image.specs.declared.table.Table.{Table}
 use Rattle.blocks.specs.declared.answer.Judged.{Judged}
@@ -45,10 +47,11 @@ pub record Looked (c : List ℤ) (g : ℕ) : Type 0 where
   pub few : g ≤ 360
   pub short : length c ≤ 16
 
--- a table within its bounds, and bytes that have its granules
+-- a table within its bounds, and bytes that have its granules, in blocks that are formed
 pub record Granules (b : List ℕ) (t : Table) : Type 0 where
   pub bounded : isBounded t ≡ true
   pub long : length b ≡ blocksOf (t .count) * 512
+  pub formed : (k : ℕ) → k < blocksOf (t .count) → isFormed (t .count) (t .degree) k (block b k) ≡ true
 
 -- a table within its bounds, and a list of its coefficients
 pub record Listed (c : List ℤ) (t : Table) : Type 0 where

@@ -92,13 +92,12 @@ fn ended(table: Table, scan: Scan) -> Judged
     Judged::Accepted(table)
 }
 
-// Tests 14 to 16 of a table in bytes, whose bounds and blocks are right.
+// Tests 14 to 16 of a table in bytes, whose bounds and blocks are right: so all sixteen of a granule are looked at, 'those above the degree zero'.
 pub fn judge_stored(bytes: &[u8], table: Table) -> Judged
     requires { ⌜ Granules (now bytes) table ⌝ }
     ensures { λ r. ⌜ r ≡ judgedBy (granuleTests table (granuleOf (now (bytes .entry)) (table .degree))) table ⌝ }
 {
     let count = table.count as usize;
-    let width = table.degree as usize + 1;
     let length = table.length as u64;
     let mut scan = Scan {
         light: 0,
@@ -108,7 +107,7 @@ pub fn judge_stored(bytes: &[u8], table: Table) -> Judged
     let mut g = 0;
     while g < count {
         let all = stored(bytes, g);
-        match look_at(scan, g, &all[0..width], length) {
+        match look_at(scan, g, &all, length) {
             Next::Large => {
                 return refused(14, g);
             }

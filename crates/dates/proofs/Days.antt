@@ -1,95 +1,65 @@
--- The day of a tick, counted from JD 2443144.5, 32,184,000,000 ticks before the origin. Assumes nothing.
-use mathlib.Core.Path.{_≡_, ap, _∙_}
-use Prim.Native.Nat.{ℕ, suc, _+_, _/_, _^_, _≤_, _<_, zero-le}
-use native.Mathlib.Nat.{add-div-right}
-use native.Mathlib.Numerals.{add-one}
+-- The day of a tick, counted from 70,000 days before JD 2443144.5, which is JD 2373144.5. Assumes nothing.
+use mathlib.Core.Path.{_≡_, ap}
+use Prim.Native.Nat.{ℕ, _+_, _*_, _/_, _%_, _^_, _≤_}
+use native.Mathlib.Nat.{div-add-mod'}
 use native.Mathlib.Omega.{arith}
-use lib.Dec.{T, lit<, le→leb, lt→ltb}
+use lib.Dec.{T, le→leb, lit≤}
 use lib.Ieee.{binary64, inFloat}
-use lib.IntN.{ℤ, pos, negsuc, negℤ, natAbs, _+ℤ_, _-ℤ_, _*ℤ_}
-use lib.Signed.{_≤ℤ_, _<ℤ_, clashℤ}
+use lib.IntN.{ℤ, pos, natAbs, _+ℤ_, _-ℤ_, _*ℤ_}
+use lib.Signed.{_≤ℤ_, pos-natAbs, yes-nonNeg}
 use Rattle.numbers.specs.Rounding.{floorDiv}
-use Rattle.numbers.proofs.Differences.{rep, rep₂, lin}
-use Rattle.numbers.proofs.Order.{le-pos}
-use Rattle.numbers.proofs.Rounding.{floored, floor-plus}
+use Rattle.numbers.proofs.Differences.{rep, lin}
 use Rattle.scales.specs.Tick.{furthest}
 use Rattle.dates.specs.Ticks.{dayTicks, origin}
 use Rattle.dates.specs.Written.{sinceHalf, dayOf, sinceDay}
-use Rattle.dates.specs.Inner.{OfDay}
+use Rattle.dates.specs.Inner.{Since}
 
--- ---- a negative number's floor is its size's quotient rounded up, taken off
-pub floor-below : (z : ℤ) (q : ℕ) → z <ℤ pos 0 → q ≡ (natAbs (pos 0 -ℤ z) + 86399999999999) / 86400000000000 → negℤ (pos q) ≡ floorDiv z dayTicks
-unfolding floorDiv
-floor-below (pos n) q h e = clashℤ h (le-pos 0 n zero-le)
-floor-below (negsuc n) q h e = ap (λ (k : ℕ). negℤ (pos k)) (e ∙ ap (λ (k : ℕ). k / 86400000000000) (turn n) ∙ add-div-right n (lit< tt) ∙ add-one (n / 86400000000000))
-  where
-    turn : (n : ℕ) → 0 + suc n + 86399999999999 ≡ n + 86400000000000
-    turn n = omega arith
+-- ---- every valid tick has such a count
+pub ahead : (k : ℕ) → furthest ≤ k → (t : ℤ) → natAbs t ≤ furthest → pos 0 ≤ℤ (t +ℤ pos k)
+ahead k enough = rep _ (λ a b. simp lin (omega arith))
 
--- ---- a valid tick's day
-abbrev pub since : ℤ → ℤ
-since tick = tick +ℤ pos 32184000000
+near : (t : ℤ) → natAbs t ≤ furthest → natAbs (t +ℤ pos 6048000032184000000) ≤ 12048000032184000000
+near = rep _ (λ a b. simp lin (omega arith))
 
-abbrev pub days : ℤ → ℤ
-days tick = floorDiv (since tick) dayTicks
+pub counted : (tick : ℤ) → natAbs tick ≤ furthest → Since tick (natAbs (tick +ℤ pos 6048000032184000000))
+counted tick h = record { is = pos-natAbs _ (yes-nonNeg (ahead _ (lit≤ tt) tick h)); few = near tick h }
 
-shift : (t : ℤ) → t +ℤ pos origin -ℤ pos 43200000000000 ≡ t +ℤ pos 32184000000 +ℤ pos 86400000000000 *ℤ pos 2443144
-shift = rep _ (λ a b. simp lin (omega arith))
+-- ---- its day and the ticks of the day, by one division
+shift : (n : ℕ) (t : ℤ) → pos n ≡ t +ℤ pos 6048000032184000000 → t +ℤ pos origin -ℤ pos 43200000000000 ≡ pos (n + 2373144 * 86400000000000)
+shift n = rep _ (λ a b. simp lin (omega arith))
 
-day-is : (tick : ℤ) → dayOf tick ≡ days tick +ℤ pos 2443144
-unfolding dayOf sinceHalf
-day-is tick = ap (λ (z : ℤ). floorDiv z dayTicks) (shift tick) ∙ floor-plus (since tick) (pos 2443144) dayTicks (lit< tt)
+module _ (tick : ℤ) (since : ℕ) (s : Since tick since) where
+  half-is : sinceHalf tick ≡ pos (since + 2373144 * dayTicks)
+  unfolding sinceHalf
+  half-is = shift since tick (s .is)
 
-half-days : (q : ℤ) → pos 2 *ℤ q +ℤ pos 4886289 ≡ pos 2 *ℤ (q +ℤ pos 2443144) +ℤ pos 1
-half-days = rep _ (λ a b. simp lin (omega arith))
+  day-is : dayOf tick ≡ pos (since / dayTicks + 2373144)
+  unfolding dayOf floorDiv
+  day-is = rw half-is (ap pos (go since))
+    where
+      go : (n : ℕ) → (n + 2373144 * 86400000000000) / 86400000000000 ≡ n / 86400000000000 + 2373144
+      go n = omega arith
 
-pub first-is : (tick : ℤ) → pos 2 *ℤ days tick +ℤ pos 4886289 ≡ pos 2 *ℤ dayOf tick +ℤ pos 1
-first-is tick = rw (day-is tick) (half-days (days tick))
+  pub first-is : pos 2 *ℤ dayOf tick +ℤ pos 1 ≡ pos (2 * (since / dayTicks) + 4746289)
+  first-is = rw day-is (ap pos (go (since / dayTicks)))
+    where
+      go : (q : ℕ) → 2 * (q + 2373144) + 1 ≡ 2 * q + 4746289
+      go q = omega arith
 
-left : (t q : ℤ) → t +ℤ pos 32184000000 -ℤ q *ℤ pos 86400000000000 ≡ t +ℤ pos origin -ℤ pos 43200000000000 -ℤ pos 86400000000000 *ℤ (q +ℤ pos 2443144)
-left = rep₂ _ (λ a b c d. simp lin (omega arith))
+  pub second-is : sinceDay tick ≡ pos (since % dayTicks)
+  unfolding sinceDay
+  second-is = rw (half-is, day-is) (go since (since / dayTicks) (since % dayTicks) (div-add-mod' since dayTicks))
+    where
+      go : (n q r : ℕ) → q * 86400000000000 + r ≡ n → pos (n + 2373144 * 86400000000000) -ℤ pos 86400000000000 *ℤ pos (q + 2373144) ≡ pos r
+      go n q r e = simp lin (omega arith)
 
-pub second-is : (tick : ℤ) → since tick -ℤ days tick *ℤ pos dayTicks ≡ sinceDay tick
-unfolding sinceDay sinceHalf
-second-is tick = rw (day-is tick) (left tick (days tick))
+  pub days-few : since / dayTicks ≤ 140000
+  days-few = go since (s .few)
+    where
+      go : (n : ℕ) → n ≤ 12048000032184000000 → n / 86400000000000 ≤ 140000
+      go n h = omega arith
 
-pub since-size : (t : ℤ) → natAbs t ≤ furthest → natAbs (since t) ≤ 6000000032184000000
-since-size = rep _ (λ a b. simp lin (omega arith))
-
-few : (x q : ℤ) → natAbs x ≤ 6000000032184000000 → (pos 86400000000000 *ℤ q) ≤ℤ x → x <ℤ (pos 86400000000000 *ℤ q +ℤ pos 86400000000000) → natAbs q ≤ 70000
-few = rep₂ _ (λ a b c d. simp lin (omega arith))
-
-pub days-few : (tick : ℤ) → natAbs tick ≤ furthest → natAbs (days tick) ≤ 70000
-days-few tick h = let f = floored (since tick) dayTicks (lit< tt) in few (since tick) (days tick) (since-size tick h) (f .under) (f .above)
-
-from-start : (x q : ℤ) → (pos 86400000000000 *ℤ q) ≤ℤ x → pos 0 ≤ℤ (x -ℤ q *ℤ pos 86400000000000)
-from-start = rep₂ _ (λ a b c d. simp lin (omega arith))
-
-to-end : (x q : ℤ) → x <ℤ (pos 86400000000000 *ℤ q +ℤ pos 86400000000000) → (x -ℤ q *ℤ pos 86400000000000) <ℤ pos 86400000000000
-to-end = rep₂ _ (λ a b c d. simp lin (omega arith))
-
-pub of-day : (tick : ℤ) → OfDay (since tick -ℤ days tick *ℤ pos dayTicks)
-of-day tick =
-    let f = floored (since tick) dayTicks (lit< tt) in
-    record { start = from-start (since tick) (days tick) (f .under); end = to-end (since tick) (days tick) (f .above) }
-
-day-size : (x : ℤ) → pos 0 ≤ℤ x → x <ℤ pos 86400000000000 → natAbs x ≤ 86400000000000
-day-size = rep _ (λ a b. simp lin (omega arith))
-
-pub of-day-size : (x : ℤ) → OfDay x → natAbs x ≤ dayTicks
-of-day-size x o = day-size x (o .start) (o .end)
-
-pub day-ticks-size : (q : ℤ) → natAbs q ≤ 70000 → natAbs (q *ℤ pos 86400000000000) ≤ 6048000000000000000
-day-ticks-size = rep _ (λ a b. simp lin (omega arith))
-
-pub twice-size : (q : ℤ) → natAbs q ≤ 70000 → natAbs (pos 2 *ℤ q) ≤ 140000
-twice-size = rep _ (λ a b. simp lin (omega arith))
-
-pub half-days-size : (q : ℤ) → natAbs q ≤ 70000 → natAbs (pos 2 *ℤ q +ℤ pos 4886289) ≤ 5026289
-half-days-size = rep _ (λ a b. simp lin (omega arith))
-
--- a whole number up to 2^53 either way is cast exactly
-pub castable : (z : ℤ) → natAbs z ≤ 2 ^ 53 → T (inFloat binary64 z)
+-- a whole number up to 2^53 is cast exactly
+pub castable : (n : ℕ) → n ≤ 2 ^ 53 → T (inFloat binary64 (pos n))
 unfolding inFloat
-castable (pos n) h = le→leb n (2 ^ 53) h
-castable (negsuc n) h = lt→ltb n (2 ^ 53) h
+castable n h = le→leb n (2 ^ 53) h

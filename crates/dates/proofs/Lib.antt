@@ -4,7 +4,7 @@
 --   `Earlier`: of two readings of seconds the earlier is never the later tick (earlier); the same over exact values (ticks-in-order).
 --   `Known`: 01's known values of dates that are not marked P (known-dates), and the edges of its rules (edges).
 -- The rest serves the functions' proofs: what comparisons and bits of a double say (`Comparisons`, `Fields`), its value in ticks (`Halves`, `Values`), the
--- two-piece numbers and spans of the code (`Pieces`, `Spans`), the day of a tick (`Days`) and one rounded division (`Division`).
+-- shifts and pieces of a product and the spans of the code (`Pieces`, `Spans`), the day of a tick (`Days`) and one rounded division (`Division`).
 pub mod Comparisons
 pub mod Fields
 pub mod Pieces

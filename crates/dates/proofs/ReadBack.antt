@@ -2,23 +2,23 @@
 -- Assumes nothing.
 use mathlib.Core.Path.{_≡_, refl, sym, ap, _∙_, subst}
 use mathlib.Core.Bool.{Bool, true, false, true≢false}
-use Prim.Native.Nat.{ℕ, _+_, _*_, _^_, _≤_, _<_, zero-le}
-use native.Mathlib.Nat.{mul-comm, le-of-lt, le-trans, le-of-eq, mul-right-comm, mul-le-mul-right, mul-lt-mul-of-pos-right, le-of-mul-le-mul-right, lt-of-mul-lt-mul-right}
+use Prim.Native.Nat.{ℕ, _+_, _*_, _/_, _%_, _^_, _≤_, _<_, zero-le}
+use native.Mathlib.Nat.{mul-comm, mod-lt, le-of-lt, le-trans, le-of-eq, mul-right-comm, mul-le-mul-right, mul-lt-mul-of-pos-right, le-of-mul-le-mul-right, lt-of-mul-lt-mul-right}
 use native.Mathlib.Omega.{arith}
 use lib.Arith.{le→nltb}
-use lib.Dec.{ltb, ltb→lt, lit≤, lit<}
+use lib.Dec.{ltb, lit≤, lit<}
 use lib.Pow.{pow-pos}
 use lib.IntN.{ℤ, pos, natAbs, _+ℤ_, _-ℤ_, _*ℤ_}
-use lib.Signed.{_≤ℤ_, _<ℤ_, pos-natAbs, yes-nonNeg}
+use lib.Signed.{_≤ℤ_, _<ℤ_}
 use lib.Ieee.{Float, nan, inf, fin, up, down, binary64}
 use lib.Ieee.Bits.{is-false}
 use lib.Ieee.Exact.{HasValue}
 use lib.Ieee.Fits.{down-pos}
 use lib.Ieee.Scale.{finite, grid}
-use Rattle.numbers.proofs.Differences.{rep, rep₂, lin}
+use Rattle.numbers.proofs.Differences.{rep₂, lin}
 use Rattle.numbers.proofs.Order.{le-pos, lt-pos}
 use Rattle.numbers.proofs.Rounding.{Floored, floored}
-use Rattle.scales.specs.Tick.{isValid, furthest}
+use Rattle.scales.specs.Tick.{isValid}
 use Rattle.scales.proofs.Range.{valid-size}
 use Rattle.dates.specs.declared.reading.Read.the-variants as R
 use Rattle.dates.specs.declared.reading.Reading.the-variants.{TwoPart}
@@ -27,8 +27,8 @@ use Rattle.dates.specs.Ticks.{dayTicks, origin, nearestTick, tickOfDate}
 use Rattle.dates.specs.Readings.{inRange, readOf, readOfDate, mostDays}
 use Rattle.dates.specs.Written.{sinceHalf, dayOf, sinceDay, firstPart, secondPart, dateOf, writtenOf}
 use Rattle.dates.specs.Answers.{Accepts, numberOf, tickOf, writtenNumber, writtenFirst, writtenSecond}
-use Rattle.dates.specs.Inner.{OfDay}
-use Rattle.dates.proofs.Days.{days, days-few, first-is, half-days-size, of-day, second-is}
+use Rattle.dates.specs.Inner.{Since}
+use Rattle.dates.proofs.Days.{counted, days-few, first-is, second-is}
 use Rattle.dates.proofs.Division.{part-under, part-value, part-ticks, half-value}
 use Rattle.dates.proofs.Values.{ticks-of}
 use Rattle.dates.proofs.Halves.{sized}
@@ -67,12 +67,6 @@ below-one (fin false m e) a c C v h = (
 )
 
 -- ---- a valid tick's two parts
-ahead : (q : ℤ) → natAbs q ≤ 70000 → pos 0 ≤ℤ (pos 2 *ℤ q +ℤ pos 4886289)
-ahead = rep _ (λ a b. simp lin (omega arith))
-
-whole : (z : ℤ) → pos 0 ≤ℤ z → pos (natAbs z) ≡ z
-whole z h = pos-natAbs z (yes-nonNeg h)
-
 abbrev halves : ℤ → ℤ
 halves tick = pos 2 *ℤ dayOf tick +ℤ pos 1
 
@@ -80,19 +74,23 @@ day-sum : (t d : ℤ) → pos 43200000000000 *ℤ (pos 2 *ℤ d +ℤ pos 1) +ℤ
 day-sum = rep₂ _ (λ a b c d. simp lin (omega arith))
 
 module _ (tick : ℤ) (v : isValid tick ≡ true) where
-  near : natAbs tick ≤ furthest
-  near = valid-size tick v
+  since : ℕ
+  since = natAbs (tick +ℤ pos 6048000032184000000)
+
+  is-since : Since tick since
+  unfolding since
+  is-since = counted tick (valid-size tick v)
 
   n : ℕ
-  n = natAbs (halves tick)
+  n = 2 * (since / dayTicks) + 4746289
 
   n-is : pos n ≡ halves tick
   unfolding n
-  n-is = whole (halves tick) (subst (λ (z : ℤ). pos 0 ≤ℤ z) (first-is tick) (ahead (days tick) (days-few tick near)))
+  n-is = sym (first-is tick since is-since)
 
   n-small : n ≤ 5026289
   unfolding n
-  n-small = subst (λ (z : ℤ). natAbs z ≤ 5026289) (first-is tick) (half-days-size (days tick) (days-few tick near))
+  n-small = omega (arith, days-few tick since is-since)
 
   first-value : HasValue (firstPart tick) false n 2
   unfolding firstPart
@@ -107,21 +105,16 @@ module _ (tick : ℤ) (v : isValid tick ≡ true) where
       go : (n : ℕ) → (2 * (2 * (43200000000000 * n)) ≤ 2 * (n * 86400000000000) + 2) × (2 * (n * 86400000000000) + 2 < 2 * (2 * (43200000000000 * n)) + 2 * 2)
       go n = omega arith
 
-  in-day : OfDay (sinceDay tick)
-  in-day = subst OfDay (second-is tick) (of-day tick)
-
   r : ℕ
-  r = natAbs (sinceDay tick)
+  r = since % dayTicks
 
   r-is : pos r ≡ sinceDay tick
   unfolding r
-  r-is = whole (sinceDay tick) (in-day .start)
+  r-is = sym (second-is tick since is-since)
 
   r-small : r < dayTicks
-  r-small = pos-lt r dayTicks (subst (λ (z : ℤ). z <ℤ pos dayTicks) (sym r-is) (in-day .end))
-    where
-      pos-lt : (m n : ℕ) → pos m <ℤ pos n → m < n
-      pos-lt m n h = ltb→lt m n (h .lt)
+  unfolding r
+  r-small = mod-lt since (lit< tt)
 
   second-value : HasValue (secondPart tick) false (grid binary64 r dayTicks) (2 ^ 1074)
   unfolding secondPart

@@ -1,9 +1,9 @@
 -- From a double's value to its ticks. Assumes nothing.
-use mathlib.Core.Path.{_≡_, sym, ap, _∙_, subst}
+use mathlib.Core.Path.{_≡_, refl, sym, ap, _∙_, subst}
 use mathlib.Core.Logic.{inl, inr}
-use mathlib.Core.Bool.{Bool, true, false, not}
-use Prim.Native.Nat.{ℕ, _+_, _-_, _*_, _/_, _%_, _^_, _≤_, _<_}
-use native.Mathlib.Nat.{add-comm, le-of-lt, mod-lt, le-trans, le-of-eq, lt-of-le-of-lt, lt-irrefl, lt-of-not-le, mul-comm, mul-assoc, mul-left-comm, mul-right-comm, mul-le-mul-right, le-of-mul-le-mul-right, div-add-mod', div-le-of-le-mul}
+use mathlib.Core.Bool.{Bool, true, false, not, _&&_, false≢true}
+use Prim.Native.Nat.{ℕ, _+_, _-_, _*_, _/_, _%_, _^_, _≤_, _<_, zero-le}
+use native.Mathlib.Nat.{add-comm, le-of-lt, lt-of-lt-of-le, div-eq-of-lt, mod-eq-of-lt, mul-le-mul, mod-lt, le-trans, le-of-eq, lt-of-le-of-lt, lt-irrefl, lt-of-not-le, mul-comm, mul-assoc, mul-left-comm, mul-right-comm, mul-le-mul-right, le-of-mul-le-mul-right, div-add-mod', div-le-of-le-mul}
 use native.Mathlib.Omega.{arith}
 use lib.Arith.{le→nltb}
 use lib.Dec.{T, nltb→le, lit≤, lit<}
@@ -17,8 +17,9 @@ use Rattle.numbers.specs.Rounding.{nearest}
 use Rattle.numbers.proofs.Rounding.{nearest-plus, nearest-reduced}
 use Rattle.dates.specs.Doubles.{signed, numerator, denominator, beyond}
 use Rattle.dates.specs.Ticks.{nearestTick}
-use Rattle.dates.specs.Inner.{Apart, Passed, Counted}
-use Rattle.dates.proofs.Halves.{signed-times, signed-plus, at-most}
+use Rattle.dates.specs.Inner.{Apart, Counted, Factored, PartPlaces, Passed, passing}
+use Rattle.dates.proofs.Halves.{signed-times, signed-plus, at-most, nothing}
+use Rattle.dates.proofs.Pieces.{last-digits}
 
 -- ---- equal fractions round alike
 same-value : (s : Bool) (a b c d : ℕ) → 0 < b → 0 < d → a * d ≡ c * b → nearest (signed s a) b ≡ nearest (signed s c) d
@@ -95,22 +96,62 @@ module _ (x : Float) (s : Bool) (digits e : ℕ) (t : Apart x s digits e) (h : e
       turn : (u p : ℕ) → 10000000000 * (u * p) ≡ p * 10000000000 * u
       turn u p = omega arith
 
-  pub with-units : (n r : ℕ) → Passed 10000000000 x → nearest (signed s (digits % P * n)) P ≡ signed s r → Counted n x s (digits / P) r
+  with-units : (n r : ℕ) → Passed 10000000000 x → nearest (signed s (digits % P * n)) P ≡ signed s r → Counted n x s (digits / P) r
   with-units n r p i = record {
     is = all n ∙ ap (λ (z : ℕ). nearest (signed s (z * n)) P) (sym (div-add-mod' digits P)) ∙ split n (digits / P) (digits % P) r i;
     few = few p;
     part = at-most s (digits % P * n) P r n (pow-pos (1074 - e)) (mul-le-mul-right n (le-of-lt (mod-lt digits (pow-pos (1074 - e))))) i;
   }
 
-  pub no-units : (n r : ℕ) → digits ≤ P → nearest (signed s (digits * n)) P ≡ signed s r → Counted n x s 0 r
-  no-units n r l i = record {
-    is = all n ∙ i ∙ ap (signed s) (only n r);
+  -- the part of a unit by its first 64 places, and those past them
+  module _ (part : ℕ) (q : PartPlaces (1074 - e) part) where
+    same-digits : (digits / 2 ^ part ≡ digits / P) × (digits % 2 ^ part ≡ digits % P)
+    same-digits = elim (q .all) [
+      | inl z ↦ rw z (refl, refl)
+      | inr z ↦
+          let l : digits < 2 ^ part = rw z (lt-of-lt-of-le (t .small) (lit≤ tt)) in
+          let g : digits < P = lt-of-lt-of-le l (pow-mono (q .among)) in
+          (div-eq-of-lt l ∙ sym (div-eq-of-lt g), mod-eq-of-lt l ∙ sym (mod-eq-of-lt g))
+    ]
+
+    pub with-part : (odd twos r : ℕ) → twos ≤ 16 → Passed 10000000000 x
+        → nearest (signed s (digits * 2 ^ (64 - part) % 18446744073709551616 * odd)) (2 ^ (32 + (32 + (1074 - e) - part - twos))) ≡ signed s r
+        → Counted (odd * 2 ^ twos) x s (digits / 2 ^ part) r
+    with-part odd twos r l p i =
+        let d = 2 ^ (32 + (32 + (1074 - e) - part - twos)) in
+        let f = digits % P * 2 ^ (64 - part) in
+        let kept : digits * 2 ^ (64 - part) % 18446744073709551616 ≡ f = last-digits digits part (le-trans (q .few) (lit≤ tt)) ∙ ap (λ (z : ℕ). z * 2 ^ (64 - part)) (same-digits .1) in
+        rw (same-digits .0)
+        (with-units (odd * 2 ^ twos) r p
+        (same-value s (digits % P * (odd * 2 ^ twos)) P (f * odd) d (pow-pos (1074 - e)) (pow-pos (32 + (32 + (1074 - e) - part - twos))) (turn (digits % P) odd (2 ^ twos) d (2 ^ (64 - part)) P (powers twos (1074 - e) l (q .among) (q .few)))
+        ∙ ap (λ (z : ℕ). nearest (signed s (z * odd)) d) (sym kept)
+        ∙ i))
+      where
+        powers : (a k : ℕ) → a ≤ 16 → part ≤ k → part ≤ 63 → 2 ^ a * 2 ^ (32 + (32 + k - part - a)) ≡ 2 ^ (64 - part) * 2 ^ k
+        powers a k l m n = sym (pow-add 2 a (32 + (32 + k - part - a))) ∙ ap (λ (z : ℕ). 2 ^ z) (go a k part l m n) ∙ pow-add 2 (64 - part) k
+          where
+            go : (a k p : ℕ) → a ≤ 16 → p ≤ k → p ≤ 63 → a + (32 + (32 + k - p - a)) ≡ 64 - p + k
+            go a k p l m n = omega arith
+
+        turn : (f o a d u p : ℕ) → a * d ≡ u * p → f * (o * a) * d ≡ f * u * o * p
+        turn f o a d u p h = omega (arith, ap (λ (z : ℕ). f * o * z) h)
+
+  -- less than half a tick is none
+  pub no-tick : (odd twos : ℕ) → Factored odd twos → 103 < 1074 - e → Counted (odd * 2 ^ twos) x s 0 0
+  no-tick odd twos f g = record {
+    is = all n ∙ nothing s (digits * n) P (lt-of-lt-of-le (go (digits * n) (mul-le-mul (le-of-lt (t .small)) (mul-le-mul (le-of-lt (f .small)) (pow-mono (f .low))))) (pow-mono g)) ∙ ap (signed s) (none n);
     few = lit≤ tt;
-    part = at-most s (digits * n) P r n (pow-pos (1074 - e)) (mul-le-mul-right n l) i;
+    part = zero-le;
   }
     where
-      only : (n r : ℕ) → r ≡ 0 * n + r
-      only n r = omega arith
+      n : ℕ
+      n = odd * 2 ^ twos
+
+      go : (n : ℕ) → n ≤ 9007199254740992 * (2147483648 * 65536) → 2 * n < 20282409603651670423947251286016
+      go n h = omega arith
+
+      none : (n : ℕ) → 0 ≡ 0 * n + 0
+      none n = omega arith
 
 -- a smaller range lies in a larger
 pub wider : (a b : ℕ) (x : Float) → a ≤ b → Passed a x → Passed b x
@@ -122,3 +163,19 @@ wider a b (fin s m e) l h = record { finitely = tt; within = le→nltb (b * down
 -- what the two tests leave
 pub passes : (most : ℕ) (x : Float) → finite x ≡ true → beyond most x ≡ false → Passed most x
 passes most x f b = record { finitely = subst T (sym f) tt; within = subst (λ (a : Bool). T (not a)) (sym b) tt }
+
+-- and what the one test of both says
+module _ (most : ℕ) (x : Float) (h : passing most x ≡ true) where
+  both : (a b : Bool) → (a && not b) ≡ true → (a ≡ true) × (b ≡ false)
+  both true true e = absurd (false≢true e)
+  both true false e = (refl, refl)
+  both false b e = absurd (false≢true e)
+
+  pub finite-then : finite x ≡ true
+  finite-then = both (finite x) (beyond most x) h .0
+
+  pub within-then : beyond most x ≡ false
+  within-then = both (finite x) (beyond most x) h .1
+
+  pub passed : Passed most x
+  passed = passes most x finite-then within-then

@@ -1,11 +1,10 @@
 -- What the inner functions ask and give.
 use mathlib.Core.Path.{_≡_}
 use mathlib.Core.Logic.{_⊎_}
-use mathlib.Core.Bool.{Bool, not}
+use mathlib.Core.Bool.{Bool, not, _&&_}
 use Prim.Native.Nat.{ℕ, _+_, _*_, _^_, _<_, _≤_}
 use lib.Dec.{T}
 use lib.IntN.{ℤ, pos, natAbs, _+ℤ_, _*ℤ_}
-use lib.Signed.{_≤ℤ_, _<ℤ_}
 use lib.Ieee.{Float}
 use lib.Ieee.Exact.{HasValue}
 use lib.Ieee.Scale.{finite}
@@ -19,49 +18,31 @@ pub record Apart (x : Float) (negative : Bool) (digits exponent : ℕ) : Type 0 
   pub small : digits < 2 ^ 53
   pub least : (exponent ≡ 0) ⊎ (2 ^ 52 ≤ digits)
 
--- a double that passes refusals 2 and 3
+-- a double that passes refusals 2 and 3, as a test and as what is known then
+abbrev pub passing : ℕ → Float → Bool
+passing most x = finite x && not (beyond most x)
+
 pub record Passed (most : ℕ) (x : Float) : Type 0 where
   pub finitely : T (finite x)
   pub within : T (not (beyond most x))
 
--- ---- a number below 2^84 in two pieces
-abbrev pub joined : ℕ → ℕ → ℕ
-joined high low = high * 4294967296 + low
-
--- two factors whose product is below 2^84
-pub record Factors (digits odd : ℕ) : Type 0 where
-  pub few : digits < 9007199254740992
-  pub small : odd < 2147483648
-  pub some : 0 < odd
-
--- the number n in its two pieces
-pub record Wide (n high low : ℕ) : Type 0 where
-  pub sum : joined high low ≡ n
-  pub short : low < 4294967296
-
--- a number in two pieces from which one can be taken
-pub record Lessening (high low : ℕ) : Type 0 where
-  pub some : 0 < joined high low
-  pub short : low < 4294967296
-
--- a number in two pieces, and how far it is shifted down: what is left is below 2^48
-pub record Shifting (high low by : ℕ) : Type 0 where
-  pub short : low < 4294967296
-  pub under : joined high low < 2 ^ (by + 48)
-  pub small : joined high low < 2 ^ 84
-
 -- ---- a unit, a day or a second, of odd·2^twos ticks
 pub record Factored (odd twos : ℕ) : Type 0 where
   pub small : odd < 2147483648
-  pub some : 0 < odd
+  pub high : 9 ≤ twos
   pub low : twos ≤ 16
 
--- digits / 2^places of such a unit, less than one
-pub record Fraction (digits places odd twos : ℕ) : Type 0 where
-  pub factors : Factors digits odd
-  pub under : digits < 2 ^ places
-  pub long : twos + 1 ≤ places
-  pub low : twos ≤ 16
+-- what the product with such a factor is divided by, above 2^32
+pub record Cut (odd by : ℕ) : Type 0 where
+  pub small : odd < 2147483648
+  pub some : 1 ≤ by
+  pub few : by ≤ 63
+
+-- the place at which digits of so many places are split into whole units and a part
+pub record PartPlaces (places part : ℕ) : Type 0 where
+  pub among : part ≤ places
+  pub few : part ≤ 63
+  pub all : (part ≡ places) ⊎ (part ≡ 63)
 
 -- x units of `per` ticks, to the nearest tick, as whole units and ticks of one sign
 pub record Counted (per : ℕ) (x : Float) (negative : Bool) (units ticks : ℕ) : Type 0 where
@@ -97,7 +78,7 @@ pub record Rounded (per : ℕ) (x : Float) (span : Span) : Type 0 where
   pub is : nearestTick per x ≡ worth span
   pub small : Within 1000000000000000 span
 
--- ---- ticks of a day: from 0 to one short of a day
-pub record OfDay (ticks : ℤ) : Type 0 where
-  pub start : pos 0 ≤ℤ ticks
-  pub end : ticks <ℤ pos dayTicks
+-- ---- a tick counted from 70,000 days before JD 2443144.5, which is 32,184,000,000 ticks before the origin
+pub record Since (tick : ℤ) (since : ℕ) : Type 0 where
+  pub is : pos since ≡ tick +ℤ pos (70000 * dayTicks + 32184000000)
+  pub few : since ≤ 12048000032184000000

@@ -5,5 +5,4 @@ mod limits;
 pub mod reading;
 mod span;
 mod ticks;
-mod wide;
 pub mod writing;

@@ -3,6 +3,7 @@ ghost use mathlib.Core.Path.{_≡_};
 ghost use lib.Ieee.Scale.{finite};
 ghost use Rattle.dates.specs.Doubles.{beyond};
 ghost use Rattle.dates.specs.Readings.{mostDays, mostSeconds};
+ghost use Rattle.dates.specs.Inner.{passing};
 
 // Neither 'NaN or infinite': 1.0 / 0.0 is the infinity, and no comparison with a NaN holds.
 pub fn is_finite(x: f64) -> bool
@@ -19,6 +20,17 @@ pub fn beyond_days(x: f64) -> bool
         return true;
     }
     x < -5_000_000.0
+}
+
+// A date part that is neither: no comparison with a NaN holds, and the infinities are beyond.
+pub fn passes_days(x: f64) -> bool
+    ensures { λ r. ⌜ r ≡ passing mostDays x ⌝ }
+{
+    if x <= 5_000_000.0 {
+        -5_000_000.0 <= x
+    } else {
+        false
+    }
 }
 
 // 'seconds beyond 10^10', either way

@@ -2,6 +2,7 @@
 use crate::limits::beyond_days;
 use crate::limits::beyond_seconds;
 use crate::limits::is_finite;
+use crate::limits::passes_days;
 use crate::span::Span;
 use crate::span::plus;
 use crate::ticks::ticks_of_days;
@@ -9,9 +10,10 @@ use crate::ticks::ticks_of_seconds;
 use scales::answer::Refusal;
 use scales::tick::valid;
 ghost use mathlib.Core.Path.{_≡_};
+ghost use mathlib.Core.Bool.{false, _&&_};
 ghost use Rattle.dates.specs.declared.reading.Reading.the-variants as R;
-ghost use Rattle.dates.specs.Readings.{inRange, readOf, readOfDate, refusedWith};
-ghost use Rattle.dates.specs.Inner.{Within, modest, worth};
+ghost use Rattle.dates.specs.Readings.{inRange, mostDays, readOf, readOfDate, refusedWith};
+ghost use Rattle.dates.specs.Inner.{Within, modest, passing, worth};
 
 // 'A reading is a two-part Julian date in days, two doubles; or seconds past J2000, one double; or ticks.'
 pub enum Reading {
@@ -68,8 +70,9 @@ fn placed(span: Span) -> Read
     ranged(seconds * 1_000_000_000 + span.ticks)
 }
 
-// Both parts, each to its nearest tick, less Julian date 2443144.5003725, which is 211,087,684,832.184 s.
-fn two_part(first: f64, second: f64) -> Read
+// The refusal of two parts of which one does not pass: '2 over both parts, 3 over both parts (the first part first in each)'.
+fn no_date(first: f64, second: f64) -> Read
+    requires { ⌜ (passing mostDays first && passing mostDays second) ≡ false ⌝ }
     ensures { λ r. ⌜ r ≡ readOf (R.TwoPart first second) ⌝ }
 {
     if !is_finite(first) {
@@ -81,8 +84,18 @@ fn two_part(first: f64, second: f64) -> Read
     if beyond_days(first) {
         return refused(3, FIRST);
     }
-    if beyond_days(second) {
-        return refused(3, SECOND);
+    refused(3, SECOND)
+}
+
+// Both parts, each to its nearest tick, less Julian date 2443144.5003725, which is 211,087,684,832.184 s.
+fn two_part(first: f64, second: f64) -> Read
+    ensures { λ r. ⌜ r ≡ readOf (R.TwoPart first second) ⌝ }
+{
+    if !passes_days(first) {
+        return no_date(first, second);
+    }
+    if !passes_days(second) {
+        return no_date(first, second);
     }
     let sum = plus(ticks_of_days(first), ticks_of_days(second));
     placed(plus(

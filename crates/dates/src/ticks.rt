@@ -2,40 +2,35 @@
 use crate::double::take_apart;
 use crate::span::Span;
 use crate::span::span_of;
-use crate::wide::less;
-use crate::wide::product;
-use crate::wide::shifted;
 ghost use mathlib.Core.Path.{_≡_};
-ghost use Prim.Native.Nat.{_+_, _*_, _/_, _^_};
+ghost use Prim.Native.Nat.{_+_, _*_, _^_};
 ghost use Rattle.numbers.specs.Rounding.{nearest};
 ghost use Rattle.dates.specs.Doubles.{signed};
 ghost use Rattle.dates.specs.Ticks.{dayTicks, secondTicks};
 ghost use Rattle.dates.specs.Readings.{mostDays, mostSeconds};
-ghost use Rattle.dates.specs.Inner.{Counted, Factored, Fraction, Passed, Rounded};
+ghost use Rattle.dates.specs.Inner.{Counted, Cut, Factored, PartPlaces, Passed, Rounded};
 
-// Half of n, upwards.
-fn half_up(n: u64) -> u64
-    ensures { λ r. ⌜ r ≡ (n + 1) / 2 ⌝ }
+// fraction · odd / 2^(32 + by), to the nearest: half of the divisor is added to the product, and the sum is cut. An exact half goes up, or down where the whole
+// is negative, so that it always goes to the greater: there one is taken from the product. The product is in two pieces. The low one is given 2^32 to take that
+// one from, which is one of the high piece, and so one less of the half is added to it.
+fn part_of_unit(fraction: u64, odd: u64, negative: bool, by: u64) -> u64
+    requires { ⌜ Cut odd by ⌝ }
+    ensures { λ r. ⌜ nearest (signed negative (fraction * odd)) (2 ^ (32 + by)) ≡ signed negative r ⌝ }
 {
-    n / 2 + n % 2
+    let low: u64 = fraction % 4294967296 * odd + (4294967296 - negative as u64);
+    let high: u64 = fraction / 4294967296 * odd + low / 4294967296;
+    let unit: u64 = 1 << by;
+    (high + (unit / 2 - 1)) / unit
 }
 
-// digits / 2^places of a unit of odd · 2^twos ticks, to the nearest tick: half of digits · odd / 2^(places − twos − 1), upwards. An exact half goes
-// up, or down where the whole is negative, so that it always goes to the greater: there one is taken from the product before it is cut.
-fn part_of_unit(digits: u64, places: u64, negative: bool, odd: u64, twos: u64) -> u64
-    requires { ⌜ Fraction digits places odd twos ⌝ }
-    ensures { λ r. ⌜ nearest (signed negative (digits * (odd * 2 ^ twos))) (2 ^ places) ≡ signed negative r ⌝ }
+// At which of so many places digits are split into whole units and a part: at all of them, or at 63, past which a double's 53 digits have no whole unit.
+fn part_places(places: u64) -> u64
+    ensures { λ r. ⌜ PartPlaces places r ⌝ }
 {
-    if digits == 0 {
-        return 0;
+    if places < 63 {
+        return places;
     }
-    let all = product(digits, odd);
-    let by: u64 = places - twos - 1;
-    if negative {
-        let rest = less(all);
-        return half_up(shifted(rest, by));
-    }
-    half_up(shifted(all, by))
+    63
 }
 
 // Whole units and ticks, of one sign.
@@ -55,19 +50,21 @@ fn count_of(x: f64, odd: u64, twos: u64) -> Count
     let negative = parts.negative;
     let digits = parts.digits;
     let places: u64 = 1074 - parts.exponent;
-    if places < 64 {
-        let unit: u64 = 1 << places;
-        let ticks = part_of_unit(digits % unit, places, negative, odd, twos);
+    // less than half a tick
+    if places > 103 {
         return Count {
             negative,
-            units: digits / unit,
-            ticks,
+            units: 0,
+            ticks: 0,
         };
     }
-    let ticks = part_of_unit(digits, places, negative, odd, twos);
+    // the part's digits alone are left in the fraction, at its upper end: the units are shifted out of its 64 bits
+    let part = part_places(places);
+    let fraction: u64 = digits << (64 - part);
+    let ticks = part_of_unit(fraction, odd, negative, 32 + places - part - twos);
     Count {
         negative,
-        units: 0,
+        units: digits >> part,
         ticks,
     }
 }

@@ -30,7 +30,7 @@ use Rattle.desk.specs.Asked.{askedOf}
 use Rattle.desk.specs.Conversion.{convertAsked, convertJudged, convertOf, coefficientsIn}
 use Rattle.desk.specs.Batch.{earlier, triedOf, batchAsked, batchOf, batchInto}
 use Rattle.desk.proofs.Batches.{map-at, asked-fits, asked-alone}
-use Rattle.desk.proofs.Steps.{not-both, stepsAsked, asked-steps, named-steps}
+use Rattle.desk.proofs.Steps.{not-both, Accepted, stepsAsked, asked-steps, named-steps}
 
 -- a batch is accepted or refused, never both
 never-both : {P : Type 0} {answer : Batched} {refusal : Refusal} {index n : ℕ} → answer ≡ Refused refusal index → answer ≡ Converted n → P
@@ -39,7 +39,7 @@ never-both r e = let z : _≡_ {A = ℕ} 0 1 = cc in let no : ⊥ = omega arith 
 -- ---- trying a list
 -- every entry below a bound is accepted
 abbrev pub AllAccepted : (ℤ → Answer) → List ℤ → ℕ → Type 0
-AllAccepted entry ticks bound = (i : ℕ) → i < bound → (epoch : Epoch) × (n : ℕ) × (entry (getD ticks i (pos 0)) ≡ Answer.Converted epoch n)
+AllAccepted entry ticks bound = (i : ℕ) → i < bound → Accepted (entry (getD ticks i (pos 0)))
 
 -- the first entry that is refused, and its refusal
 pub record FirstRefused (entry : ℤ → Answer) (ticks : List ℤ) (refusal : Refusal) (place : ℕ) : Type 0 where

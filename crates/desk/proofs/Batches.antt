@@ -7,10 +7,11 @@ use Prim.Native.Nat.{ℕ, zero, suc, _+_, _≤_, _<_}
 use native.Mathlib.Nat.{le-of-suc-le-suc, not-suc-le-zero}
 use native.Mathlib.Numerals.{add-one}
 use native.Mathlib.Omega.{arith}
+use borrow.Author.Count.{below-more}
 use lib.Dec.{eqb}
 use lib.IntN.{ℤ, pos}
-use lib.ListN.{length, getD, drop, length-map, drop-of-length-le}
-use lib.Seq.{drop-cons, ext-getD}
+use lib.ListN.{length, getD, set, drop, length-map, drop-of-length-le}
+use lib.Seq.{drop-cons, ext-getD, getD-set-same, getD-set-other}
 use Rattle.scales.specs.declared.answer.Answer.{Answer}
 use Rattle.scales.specs.declared.answer.Answer.the-variants as Answer
 use Rattle.scales.specs.declared.answer.Epoch.{Epoch}
@@ -20,6 +21,7 @@ use Rattle.scales.specs.declared.scale.Named.the-variants as N
 use Rattle.scales.specs.declared.scale.Scale.{Scale}
 use Rattle.scales.specs.Scales.{scaleOf}
 use Rattle.image.specs.declared.table.Table.{Table}
+use Rattle.image.proofs.Stores.{not-same}
 use Rattle.blocks.specs.declared.answer.Judged.the-variants as J
 use Rattle.blocks.specs.Judging.{judged}
 use Rattle.dates.specs.declared.reading.Reading.the-variants.{Ticks}
@@ -30,7 +32,7 @@ use Rattle.desk.specs.declared.batch.Batched.the-variants.{Converted, Re
 use Rattle.desk.specs.Asked.{askedFor, askedOf}
 use Rattle.desk.specs.Conversion.{convertAsked, convertJudged, convertOf, coefficientsIn}
 use Rattle.desk.specs.Batch.{earlier, triedOf, batchAsked, batchOf, batchInto, HasConverted}
-use Rattle.desk.specs.Inner.{ticksBy, Filled, FilledTaken, FilledCrossing}
+use Rattle.desk.specs.Inner.{soonerOf, laterOf, endsOf, ticksBy, Filled, FilledTaken, FilledCrossing}
 use Rattle.desk.proofs.Opening.{coefficients-are}
 
 -- ---- the entries that are left, from an index on
@@ -49,6 +51,16 @@ module _ (entry : ℤ → Answer) (steps : ℕ) (ticks : List ℤ) (index : ℕ)
   unfolding triedOf
   none-left h = rw (drop-of-length-le ticks h)
 
+-- ---- the ends of a list
+module _ (earliest latest : ℤ) (ticks : List ℤ) (index : ℕ) where
+  pub wider : index < length ticks → let tick = getD ticks index (pos 0) in endsOf earliest latest (drop index ticks) ≡ endsOf (soonerOf earliest tick) (laterOf latest tick) (drop (index + 1) ticks)
+  unfolding endsOf
+  wider h = rw (drop-cons ticks index (pos 0) h, add-one)
+
+  pub no-wider : length ticks ≤ index → endsOf earliest latest (drop index ticks) ≡ record { earliest = earliest; latest = latest }
+  unfolding endsOf
+  no-wider h = rw (drop-of-length-le ticks h)
+
 -- ---- a list by its places, each made of the same place of another
 pub map-at : {A B : Type 0} (f : A → B) (l : List A) (d : A) (e : B) (i : ℕ) → i < length l → getD (map f l) i e ≡ f (getD l i d)
 map-at f [] d e i h = absurd (not-suc-le-zero h)
@@ -58,6 +70,12 @@ map-at f (a ∷ l) d e (suc i) h = map-at f l d e i (le-of-suc-le-suc h)
 pub is-map : {A B : Type 0} (f : A → B) (l : List A) (m : List B) (d : A) (e : B) → length m ≡ length l → ((i : ℕ) → i < length l → getD m i e ≡ f (getD l i d)) → m ≡ map f l
 is-map f l m d e long each =
     ext-getD e m (map f l) (long ∙ sym (length-map l f)) (λ i h. let k = subst (λ (n : ℕ). i < n) long h in each i k ∙ sym (map-at f l d e i k))
+
+-- what is written so far, and one more
+pub written-more : (l : List ℤ) (i : ℕ) (x : ℤ) (of : ℕ → ℤ) → i < length l → ((j : ℕ) → j < i → getD l j (pos 0) ≡ of j) → x ≡ of i → (j : ℕ) → j < i + 1 → getD (set l i x) j (pos 0) ≡ of j
+written-more l i x of h before here = below-more (λ j. getD (set l i x) j (pos 0) ≡ of j) i
+    (λ j k. getD-set-other l i j x (pos 0) (not-same k) ∙ before j k)
+    (getD-set-same l i x (pos 0) h ∙ here)
 
 -- ---- a batch's answer and the second list
 module _ {answer : Batched} {entry : ℤ → Answer} {ticks answers : List ℤ} where

@@ -1,7 +1,10 @@
 pub mod Asking
 pub mod Batches
 pub mod BatchTheorems
+pub mod Interval
+pub mod OneStep
 pub mod Opening
 pub mod Steps
 pub mod Structs
 pub mod Walking
+pub mod Writing

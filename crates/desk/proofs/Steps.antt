@@ -37,17 +37,30 @@ use Rattle.desk.specs.Walk.{stepOf, onward, walkOf}
 pub not-both : {P : Type 0} {answer : Answer} {refusal : Refusal} {epoch : Epoch} {n : ℕ} → answer ≡ Refused refusal → answer ≡ Converted epoch n → P
 not-both r e = let z : _≡_ {A = ℕ} 0 1 = cc in let no : ⊥ = omega arith in absurd no
 
+-- an answer that is accepted
+abbrev pub Accepted : Answer → Type 0
+Accepted answer = (epoch : Epoch) × (n : ℕ) × (answer ≡ Converted epoch n)
+
 -- ---- the walk
-onward-steps : (rest : ℤ → Answer) (done left : ℕ) (stepped : Stepped) {epoch : Epoch} {n : ℕ} → ((tick : ℤ) → rest tick ≡ Converted epoch n → n ≡ suc done + left) → onward rest done stepped ≡ Converted epoch n → n ≡ done + suc left
-onward-steps rest done left (Reached tick) h e = let d = h tick e in omega arith
-onward-steps rest done left OutsideTable h e = not-both refl e
-onward-steps rest done left OutsideRange h e = not-both refl e
+-- an accepted walk took each of its steps
+module _ (epoch : Epoch) (n : ℕ) where
+  pub record Stepping (rest : ℤ → Answer) (stepped : Stepped) : Type 0 where
+    pub tick : ℤ
+    pub reached : stepped ≡ Reached tick
+    pub onwards : rest tick ≡ Converted epoch n
+
+  pub stepping : (rest : ℤ → Answer) (done : ℕ) (stepped : Stepped) → onward rest done stepped ≡ Converted epoch n → Stepping rest stepped
+  stepping rest done (Reached tick) e = record { tick = tick; reached = refl; onwards = e }
+  stepping rest done OutsideTable e = not-both refl e
+  stepping rest done OutsideRange e = not-both refl e
 
 pub steps-are : (kept : Kept) (coefficients : List ℤ) (way : List Step) (scale : Scale) (done : ℕ) (tick : ℤ) {epoch : Epoch} {n : ℕ} → walkOf kept coefficients way scale done tick ≡ Converted epoch n → n ≡ done + length way
 unfolding walkOf
 steps-are kept coefficients [] scale done tick {n = n} e = let d : n ≡ done = cc in omega arith
-steps-are kept coefficients (step ∷ more) scale done tick e =
-    onward-steps _ done (length more) (stepOf kept coefficients step tick) (λ t d. steps-are kept coefficients more (end step) (suc done) t d) e
+steps-are kept coefficients (step ∷ more) scale done tick {epoch} {n} e =
+    let x = stepping epoch n (walkOf kept coefficients more (end step) (suc done)) done (stepOf kept coefficients step tick) e in
+    let d = steps-are kept coefficients more (end step) (suc done) (x .tick) (x .onwards) in
+    omega arith
 
 -- ---- the conversion
 started-steps : (walk : ℤ → Answer) (read : Read) {many : ℕ} {epoch : Epoch} {n : ℕ} → ((tick : ℤ) → walk tick ≡ Converted epoch n → n ≡ many) → started walk read ≡ Converted epoch n → n ≡ many

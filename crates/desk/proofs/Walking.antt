@@ -41,7 +41,7 @@ module _ (kept : Kept) (coefficients : List ℤ) (to : Scale) where
     at-end e = opened ∙ rw e
 
     module _ (step : Step) (by : next scale to ≡ By step) where
-      stepped : left done scale tick ≡ onward (left (suc done) (end step)) done (stepOf kept coefficients step tick)
+      pub stepped : left done scale tick ≡ onward (left (suc done) (end step)) done (stepOf kept coefficients step tick)
       unfolding left walkOf
       stepped = opened ∙ rw by
 

@@ -1,10 +1,14 @@
 -- What the inner functions ask of their callers, and what they give.
 use mathlib.Core.Path.{_≡_}
-use mathlib.Core.List.{List, map}
+use mathlib.Core.Bool.{Bool, true, false, cond}
+use mathlib.Core.List.{List, [], _∷_, map}
 use Prim.Native.Nat.{ℕ, _+_, _*_, _≤_}
 use lib.IntN.{ℤ, pos}
 use lib.ListN.{length, take, drop, replicate}
+use lib.Signed.{ltZ}
 use Rattle.scales.specs.declared.answer.Answer.{Answer}
+use Rattle.scales.specs.declared.answer.Answer.the-variants as Answer
+use Rattle.scales.specs.declared.path.Step.{Step}
 use Rattle.scales.specs.declared.scale.Scale.{Scale}
 use Rattle.scales.specs.declared.steps.GpsStep.{GpsStep}
 use Rattle.scales.specs.declared.steps.GpsStep.the-variants as Gps
@@ -28,12 +32,15 @@ use Rattle.ephemeris.specs.Accepted.{Accepted}
 use Rattle.dates.specs.declared.reading.Reading.{Reading}
 use Rattle.dates.specs.declared.reading.Reading.the-variants.{Ticks}
 use Rattle.desk.specs.declared.batch.Batched.{Batched}
+use Rattle.desk.specs.declared.batch.Batched.the-variants as Batched
+use Rattle.desk.specs.declared.batch.Ends.{Ends}
 use Rattle.desk.specs.declared.step.Stepped.{Stepped}
-use Rattle.desk.specs.declared.step.Stepped.the-variants.{Reached, OutsideRange}
+use Rattle.desk.specs.declared.step.Stepped.the-variants.{Reached, OutsideTable, OutsideRange}
 use Rattle.desk.specs.declared.walk.Kept.{Kept}
 use Rattle.desk.specs.declared.walk.Kept.the-variants as K
 use Rattle.desk.specs.Conversion.{betweenOf, crossedOf, coefficientsIn}
 use Rattle.desk.specs.Batch.{allTried, batchCrossed, entryOf, left}
+use Rattle.desk.specs.Walk.{stepOf}
 
 -- ---- what is kept has been judged and accepted, with its coefficients
 pub record Held (kept : Kept) (coefficients : List ℤ) : Type 0 where
@@ -95,14 +102,47 @@ abbrev pub overBytes : Scale → Scale → Reading → List ℕ → Answer
 overBytes from to reading bytes = crossedOf from to reading (judged bytes) (coefficientsIn bytes)
 
 -- ---- a batch
+-- of two ticks the earlier, and the later
+abbrev pub soonerOf : ℤ → ℤ → ℤ
+soonerOf one other = cond (ltZ other one) other one
+
+abbrev pub laterOf : ℤ → ℤ → ℤ
+laterOf one other = cond (ltZ one other) other one
+
+-- the earliest and the latest, of a list and two ticks before it
+unfoldable pub endsOf : ℤ → ℤ → List ℤ → Ends
+endsOf earliest latest [] = record { earliest = earliest; latest = latest }
+endsOf earliest latest (tick ∷ more) = endsOf (soonerOf earliest tick) (laterOf latest tick) more
+
+-- an answer that is no refusal
+abbrev pub isAccepted : Answer → Bool
+isAccepted (Answer.Converted epoch steps) = true
+isAccepted (Answer.Refused refusal) = false
+
 -- the ticks that a batch's entries are answered with
 abbrev pub ticksBy : (ℤ → Answer) → List ℤ → List ℤ
 ticksBy entry ticks = map (λ tick. tickOf (entry tick)) ticks
+
+-- the tick that a step came to, 0 where it came to none
+abbrev pub tickReached : Stepped → ℤ
+tickReached (Reached tick) = tick
+tickReached OutsideTable = pos 0
+tickReached OutsideRange = pos 0
+
+-- one step, of every tick of a list
+abbrev pub allStepped : Kept → List ℤ → Step → List ℤ → List ℤ
+allStepped kept coefficients step ticks = map (λ tick. tickReached (stepOf kept coefficients step tick)) ticks
 
 -- what a table is kept for: as many answers as ticks
 pub record Ready (ticks answers : List ℤ) (kept : Kept) (coefficients : List ℤ) : Type 0 where
   pub held : Held kept coefficients
   pub long : length answers ≡ length ticks
+
+-- and every tick is accepted
+pub record Tried (from to : Scale) (ticks answers : List ℤ) (kept : Kept) (coefficients : List ℤ) : Type 0 where
+  pub ready : Ready ticks answers kept coefficients
+  pub steps : ℕ
+  pub accepted : allTried from to ticks kept coefficients ≡ Batched.Converted steps
 
 pub record ReadyOver (ticks answers : List ℤ) (bytes : List ℕ) (table : Table) : Type 0 where
   pub opened : Opened bytes table

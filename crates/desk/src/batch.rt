@@ -5,6 +5,8 @@ use crate::asked::asked_of;
 use crate::conversion::between;
 use crate::opened::how_many;
 use crate::opened::taken;
+use crate::step::Stepped;
+use crate::step::take_step;
 use crate::walk::Kept;
 use blocks::answer::Judged;
 use blocks::judging::judge;
@@ -12,13 +14,16 @@ use dates::reading::Reading;
 use image::table::Table;
 use scales::answer::Answer;
 use scales::answer::Refusal;
+use scales::path::Step;
+use scales::path::Way;
+use scales::path::end_of;
+use scales::path::next_step;
 use scales::path::steps_between;
 use scales::scale::Scale;
 ghost use mathlib.Core.Path.{_≡_};
-ghost use Rattle.scales.specs.Answers.{tickOf};
 ghost use lib.ListN.{length};
 ghost use Rattle.desk.specs.Batch.{allTried, entryOf, HasConverted};
-ghost use Rattle.desk.specs.Inner.{Held, Ready, ReadyOver, ticksBy, FilledOver, FilledTaken, FilledCrossing};
+ghost use Rattle.desk.specs.Inner.{Held, soonerOf, laterOf, endsOf, isAccepted, tickReached, allStepped, Ready, Tried, ReadyOver, ticksBy, FilledOver, FilledTaken, FilledCrossing};
 
 // 'An accepted batch answers the path's steps', or a refusal with its index.
 pub enum Batched {
@@ -26,8 +31,61 @@ pub enum Batched {
     Refused(Refusal, u64),
 }
 
-// Tries every entry: the earliest refusal, or the path's steps. The coefficients are those of the table that is kept.
-fn tried(from: Scale, to: Scale, ticks: &[i64], kept: Kept, coefficients: &[i64]) -> Batched
+// The earliest and the latest tick of a list.
+struct Ends {
+    earliest: i64,
+    latest: i64,
+}
+
+// The earlier of two ticks of one scale.
+fn sooner(one: i64, other: i64) -> i64
+    ensures { λ r. ⌜ r ≡ soonerOf one other ⌝ }
+{
+    if other < one {
+        return other;
+    }
+    one
+}
+
+// The later of two ticks of one scale.
+fn later(one: i64, other: i64) -> i64
+    ensures { λ r. ⌜ r ≡ laterOf one other ⌝ }
+{
+    if one < other {
+        return other;
+    }
+    one
+}
+
+// The ends of a list and one more tick, so that the list may be empty.
+fn ends_of(first: i64, ticks: &[i64]) -> Ends
+    ensures { λ r. ⌜ r ≡ endsOf first first (now (ticks .entry)) ⌝ }
+{
+    let mut earliest = first;
+    let mut latest = first;
+    let mut at = 0;
+    while at < ticks.len() {
+        let tick = ticks[at];
+        earliest = sooner(earliest, tick);
+        latest = later(latest, tick);
+        at += 1;
+    }
+    Ends { earliest, latest }
+}
+
+// Whether a tick is accepted.
+fn is_accepted(from: Scale, to: Scale, tick: i64, kept: Kept, coefficients: &[i64]) -> bool
+    requires { ⌜ Held kept (now coefficients) ⌝ }
+    ensures { λ r. ⌜ r ≡ isAccepted (entryOf from to kept (now (coefficients .entry)) tick) ⌝ }
+{
+    match between(from, to, Reading::Ticks(tick), kept, coefficients) {
+        Answer::Converted(_, _) => true,
+        Answer::Refused(_) => false,
+    }
+}
+
+// Tries the entries one by one: the earliest refusal, or the path's steps.
+fn tried_each(from: Scale, to: Scale, ticks: &[i64], kept: Kept, coefficients: &[i64]) -> Batched
     requires { ⌜ Held kept (now coefficients) ⌝ }
     ensures { λ r. ⌜ r ≡ allTried from to (now (ticks .entry)) kept (now (coefficients .entry)) ⌝ }
 {
@@ -45,17 +103,64 @@ fn tried(from: Scale, to: Scale, ticks: &[i64], kept: Kept, coefficients: &[i64]
     Batched::Converted(steps_between(from, to))
 }
 
-// The tick of an answer, 0 where it is a refusal: 'A refusal carries no tick'.
-fn tick_told(answer: Answer) -> i64
-    ensures { λ r. ⌜ r ≡ tickOf answer ⌝ }
+// Tries every entry: the earliest refusal, or the path's steps. The coefficients are those of the table that is kept. Accepted ticks form an interval (see
+// proofs/Interval), so that where the earliest and the latest are accepted the others need not be walked.
+fn tried(from: Scale, to: Scale, ticks: &[i64], kept: Kept, coefficients: &[i64]) -> Batched
+    requires { ⌜ Held kept (now coefficients) ⌝ }
+    ensures { λ r. ⌜ r ≡ allTried from to (now (ticks .entry)) kept (now (coefficients .entry)) ⌝ }
 {
-    match answer {
-        Answer::Converted(epoch, _) => epoch.tick,
-        Answer::Refused(_) => 0,
+    if ticks.len() == 0 {
+        return tried_each(from, to, ticks, kept, coefficients);
+    }
+    let first = ticks[0];
+    let ends = ends_of(first, ticks);
+    let earliest = is_accepted(from, to, ends.earliest, kept, coefficients);
+    let latest = is_accepted(from, to, ends.latest, kept, coefficients);
+    if earliest && latest {
+        return Batched::Converted(steps_between(from, to));
+    }
+    tried_each(from, to, ticks, kept, coefficients)
+}
+
+// The first list's ticks into the second.
+fn copy_all(ticks: &[i64], answers: &mut [i64])
+    requires { ⌜ length (now answers) ≡ length (now ticks) ⌝ }
+    ensures { λ _. ⌜ now (answers .exit) ≡ now (ticks .entry) ⌝ }
+{
+    let mut i = 0;
+    while i < ticks.len() {
+        let tick = ticks[i];
+        answers[i] = tick;
+        i += 1;
     }
 }
 
-// Writes every entry's tick. All have been tried.
+// The tick that a step came to, 0 where it came to none.
+fn tick_reached(stepped: Stepped) -> i64
+    ensures { λ r. ⌜ r ≡ tickReached stepped ⌝ }
+{
+    match stepped {
+        Stepped::Reached(tick) => tick,
+        Stepped::OutsideTable => 0,
+        Stepped::OutsideRange => 0,
+    }
+}
+
+// One step, of every tick of a list. What is kept has been judged and accepted.
+fn step_all(step: Step, answers: &mut [i64], kept: Kept, coefficients: &[i64])
+    requires { ⌜ Held kept (now coefficients) ⌝ }
+    ensures { λ _. ⌜ now (answers .exit) ≡ allStepped kept (now (coefficients .entry)) step (now (answers .entry)) ⌝ }
+{
+    let mut i = 0;
+    while i < answers.len() {
+        let tick = answers[i];
+        let next = tick_reached(take_step(step, tick, kept, coefficients));
+        answers[i] = next;
+        i += 1;
+    }
+}
+
+// Writes every entry's tick. All have been tried and accepted, so that the path is walked once, each step over the whole list.
 fn write_all(
     from: Scale,
     to: Scale,
@@ -64,15 +169,19 @@ fn write_all(
     kept: Kept,
     coefficients: &[i64],
 )
-    requires { ⌜ Ready (now ticks) (now answers) kept (now coefficients) ⌝ }
+    requires { ⌜ Tried from to (now ticks) (now answers) kept (now coefficients) ⌝ }
     ensures { λ _. ⌜ now (answers .exit) ≡ ticksBy (entryOf from to kept (now (coefficients .entry))) (now (ticks .entry)) ⌝ }
 {
-    let mut i = 0;
-    while i < ticks.len() {
-        let tick = ticks[i];
-        let answer = tick_told(between(from, to, Reading::Ticks(tick), kept, coefficients));
-        answers[i] = answer;
-        i += 1;
+    copy_all(ticks, answers);
+    let mut scale = from;
+    let mut done: u32 = 0;
+    while done < 4 {
+        let Way::By(step) = next_step(scale, to) else {
+            return;
+        };
+        step_all(step, answers, kept, coefficients);
+        scale = end_of(step);
+        done += 1;
     }
 }
 

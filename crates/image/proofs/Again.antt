@@ -23,7 +23,7 @@ use Rattle.numbers.proofs.Flags.{both, and-right, or-told}
 use Rattle.numbers.proofs.Places.{every-at, upTo-at}
 use Rattle.image.proofs.Sums.{checkA-same, checkB-same}
 use Rattle.image.proofs.Digits.{word-byte, word-fits, quad-byte}
-use Rattle.image.proofs.Slots.{slot-told, number-told, free-zero, free-more, index}
+use Rattle.image.proofs.Slots.{slot-told, number-told, free-zero, free-more, parts, index}
 use Rattle.image.proofs.Stores.{four}
 use Rattle.image.proofs.Back.{is-image, small, p-which, div-of, mod-of}
 
@@ -66,9 +66,6 @@ third a r h = omega arith
 
 thirdly : (a r : ℕ) → r < 3 → (3 * a + r) % 3 ≡ r
 thirdly a r h = omega arith
-
-parts : (x : ℕ) → 128 * (x / 8 / 16) + 8 * (x / 8 % 16) + x % 8 ≡ x
-parts x = omega arith
 
 sum : (k j r m u : ℕ) → 1 ≤ k → 8 ≤ j → 128 * r + 8 * m + u ≡ j - 8 → (1 + (k - 1)) * 512 + (8 + 128 * r + 8 * m) + u ≡ k * 512 + j
 sum k j r m u h l e = omega arith

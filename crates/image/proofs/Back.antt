@@ -19,7 +19,7 @@ use Rattle.image.specs.Check.{sumA, sumB, checkA, checkB, isChecked}
 use Rattle.image.specs.Form.{granuleAt, whichAt, isNumber, isCoefficient, isFree, fixedByte, isRight, isFormed}
 use Rattle.image.specs.Image.{blocksOf, bitsOf, numberByte, coefficientByte, bodyByte, blockByte, imageByte, imageOf, tableOf, placeOf, coefficientAt, storedOf, granuleOf, coefficientsOf}
 use Rattle.image.specs.Asked.{Ready}
-use Rattle.numbers.proofs.Places.{every-is, upTo-length, upTo-at, is-upTo, take-upTo}
+use Rattle.numbers.proofs.Places.{every-is, upTo-length, upTo-at, is-upTo}
 use Rattle.image.proofs.Sums.{checkA-same, checkB-same, right-ab}
 use Rattle.image.proofs.Digits.{word-back, quad-back, pick8}
 use Rattle.image.proofs.Slots.{slot-is, free-more, right-free, right-fixed, place-fits}
@@ -201,10 +201,9 @@ module _ (t : Table) (c : List ℤ) (b : List ℕ) (img : IsImage t c b) where
       rw (x, y, z, d)
 
 -- ---- a granule of the stored, of the list, and of the bytes
--- c_0..c_n of the sixteen
-pub granule-stored : (b : List ℕ) (n g : ℕ) → n ≤ 15 → take (n + 1) (storedOf b g) ≡ granuleOf b n g
-unfolding granuleOf storedOf
-granule-stored b n g h = take-upTo (coefficientAt b g) (n + 1) 16 (omega arith)
+pub stored-length : (b : List ℕ) (g : ℕ) → length (storedOf b g) ≡ 16
+unfolding storedOf
+stored-length b g = upTo-length (coefficientAt b g) 16
 
 pub granule-length : (b : List ℕ) (n g : ℕ) → length (granuleOf b n g) ≡ n + 1
 unfolding granuleOf

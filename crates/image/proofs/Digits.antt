@@ -1,11 +1,12 @@
 -- A number in bytes, and back. Assumes nothing.
 use mathlib.Core.Path.{_≡_, refl, sym, _∙_, ap}
 use mathlib.Core.List.{List}
-use Prim.Native.Nat.{ℕ, zero, suc, _+_, _*_, _/_, _%_, _^_, _≤_, _<_}
+use Prim.Native.Nat.{ℕ, zero, suc, _+_, _*_, _-_, _/_, _%_, _^_, _≤_, _<_}
 use native.Mathlib.Nat.{div-one, add-zero, div-div-eq-div-mul}
+use native.Mathlib.Decide.{decLt}
 use native.Mathlib.Omega.{arith}
 use lib.ListN.{getD}
-use Rattle.image.specs.Words.{byteOf, quadAt, wordAt}
+use Rattle.image.specs.Words.{byteOf, quadAt, wordAt, from}
 
 -- ---- the bytes of a number make it up: two bytes at a time
 pair : (n : ℕ) → n % 256 + 256 * (n / 256 % 256) ≡ n % 65536
@@ -74,7 +75,7 @@ module _ (a0 a1 a2 a3 a4 a5 a6 a7 w : ℕ) (h0 : a0 < 256) (h1 : a1 < 256) (h2 :
   abbrev hi : ℕ
   hi = a4 + 256 * a5 + 65536 * a6 + 16777216 * a7
 
-  digits : (a0 ≡ byteOf w 0) × (a1 ≡ byteOf w 1) × (a2 ≡ byteOf w 2) × (a3 ≡ byteOf w 3) × (a4 ≡ byteOf w 4) × (a5 ≡ byteOf w 5) × (a6 ≡ byteOf w 6) × (a7 ≡ byteOf w 7)
+  pub digits : (a0 ≡ byteOf w 0) × (a1 ≡ byteOf w 1) × (a2 ≡ byteOf w 2) × (a3 ≡ byteOf w 3) × (a4 ≡ byteOf w 4) × (a5 ≡ byteOf w 5) × (a6 ≡ byteOf w 6) × (a7 ≡ byteOf w 7)
   digits =
       let x = low4 a0 a1 a2 a3 lo h0 h1 h2 h3 refl in
       let y = low4 a4 a5 a6 a7 hi h4 h5 h6 h7 refl in
@@ -113,6 +114,21 @@ module _ (b : List ℕ) (small : (i : ℕ) → getD b i 0 < 256) where
       no : (n : ℕ) {A : Type 0} → n < 4 → 4 ≤ n → A
       no n l h = let z : ⊥ = omega arith in absurd z
 
--- eight bytes that make up 0 are all 0
-pub zero-word : (b : List ℕ) (at u : ℕ) → wordAt b at ≡ 0 → u < 8 → getD b (at + u) 0 ≡ 0
-zero-word b at u e = pick8 (λ u. getD b (at + u) 0 ≡ 0) (ap (λ x. getD b x 0) (add-zero at) ∙ omega arith) (omega arith) (omega arith) (omega arith) (omega arith) (omega arith) (omega arith) (omega arith) u
+-- eight bytes that make up 0 are all 0, and so are four
+pub zero-word : (b : List ℕ) (at : ℕ) → wordAt b at ≡ 0 → (u : ℕ) → u < 8 → from b at u ≡ 0
+zero-word b at e = pick8 (λ u. from b at u ≡ 0) (ap (λ x. getD b x 0) (add-zero at) ∙ omega arith) (omega arith) (omega arith) (omega arith) (omega arith) (omega arith) (omega arith) (omega arith)
+
+pub zero-quad : (b : List ℕ) (at : ℕ) → quadAt b at ≡ 0 → (u : ℕ) → u < 4 → from b at u ≡ 0
+zero-quad b at e zero l = ap (λ x. getD b x 0) (add-zero at) ∙ omega arith
+zero-quad b at e (suc zero) l = omega arith
+zero-quad b at e (suc (suc zero)) l = omega arith
+zero-quad b at e (suc (suc (suc zero))) l = omega arith
+zero-quad b at e (suc (suc (suc (suc u)))) l = let z : ⊥ = omega arith in absurd z
+
+-- past m bytes that are 0, a word more
+pub zero-more : (b : List ℕ) (at m : ℕ) → ((u : ℕ) → u < m → from b at u ≡ 0) → wordAt b (at + m) ≡ 0 → (u : ℕ) → u < m + 8 → from b at u ≡ 0
+zero-more b at m h e u l = go (decLt u m)
+  where
+    go : Dec (u < m) → from b at u ≡ 0
+    go (yes d) = h u d
+    go (no d) = let x : at + u ≡ at + m + (u - m) = omega arith in ap (λ x. getD b x 0) x ∙ zero-word b (at + m) e (u - m) (omega arith)

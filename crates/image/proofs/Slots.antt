@@ -43,17 +43,45 @@ pub free-more : (G n k j : ℕ) → (k ≡ 0 → ⊥) → isFree G n k j ≡ isC
 unfolding isFree
 free-more G n k j e = rw (ne-eqb k 0 e)
 
--- the bytes of a coefficient's word are free together
-module _ (G n k j i : ℕ) (h : i < 8 - j % 8) where
-  same-word : 8 ≤ j → (j + i - 8) / 8 ≡ (j - 8) / 8
-  same-word l = omega arith
+-- where a byte stands, in whole numbers
+pub parts : (x : ℕ) → 128 * (x / 8 / 16) + 8 * (x / 8 % 16) + x % 8 ≡ x
+parts x = omega arith
 
-  pub word-slot : Slot G n k j → Slot G n k (j + i)
-  word-slot s =
-      let e = same-word (s .low) in
-      let g = s .granule in
-      let w = s .which in
-      record { low = omega (arith, s .low); high = omega (arith, s .high, s .low); granule = rw e g; which = rw e w }
+-- from byte j on, what is left of its granule's coefficients
+abbrev pub restAt : ℕ → ℕ → ℕ
+restAt n j = 8 * (n - whichAt j) + 8 - j % 8
+
+-- of granule q of the block, i bytes past byte u of coefficient w is still one of a coefficient
+still : (q w u n i : ℕ) → u < 8 → w ≤ n → n ≤ 15 → i < 8 * (n - w) + 8 - u → (16 * q ≤ (128 * q + 8 * w + u + i) / 8) × ((128 * q + 8 * w + u + i) / 8 ≤ 16 * q + n)
+still q w u n i a b c d = (omega arith, omega arith)
+
+in-granule : (q n y : ℕ) → n ≤ 15 → 16 * q ≤ y → y ≤ 16 * q + n → (y / 16 ≡ q) × (y % 16 ≤ n)
+in-granule q n y h a b = omega arith
+
+-- the rest of a granule's coefficients is free together
+module _ (G n k j i : ℕ) (h : i < restAt n j) (few : n ≤ 15) where
+  pub rest-slot : Slot G n k j → Slot G n k (j + i)
+  rest-slot s =
+      let q = (j - 8) / 8 / 16 in
+      let w = whichAt j in
+      let u = (j - 8) % 8 in
+      let z : j % 8 ≡ u = same j (s .low) in
+      let e : j + i - 8 ≡ 128 * q + 8 * w + u + i = past j i _ (s .low) (parts (j - 8)) in
+      let t = still q w u n i (mod-lt (j - 8) (omega arith)) (s .which) few (rw z at h) in
+      let d = in-granule q n ((128 * q + 8 * w + u + i) / 8) few (t .0) (t .1) in
+      record { low = omega (arith, s .low); high = under (j + i) q n (third (s .high)) few (rw e (t .1)); granule = rw (e, d .0) (s .granule); which = rw e (d .1) }
+    where
+      same : (j : ℕ) → 8 ≤ j → j % 8 ≡ (j - 8) % 8
+      same j h = omega arith
+
+      past : (j i x : ℕ) → 8 ≤ j → x ≡ j - 8 → j + i - 8 ≡ x + i
+      past j i x h e = omega arith
+
+      third : j < 392 → (j - 8) / 8 / 16 ≤ 2
+      third h = omega arith
+
+      under : (x q n : ℕ) → q ≤ 2 → n ≤ 15 → (x - 8) / 8 ≤ 16 * q + n → x < 392
+      under x q n a b d = omega arith
 
 -- ---- a byte that is right
 module _ (G n k : ℕ) (f : ℕ → ℕ) (j : ℕ) where

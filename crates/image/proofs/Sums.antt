@@ -1,26 +1,58 @@
 -- The sums of the check, a word more, and of bytes that agree. Assumes nothing.
-use mathlib.Core.Path.{_≡_, refl, ap}
+use mathlib.Core.Path.{_≡_, refl, _∙_, ap}
 use mathlib.Core.Bool.{true, false}
 use mathlib.Core.List.{List}
-use Prim.Native.Nat.{ℕ, zero, suc, _+_, _*_, _-_, _%_, _≤_, _<_}
+use Prim.Native.Nat.{ℕ, zero, suc, _+_, _*_, _-_, _/_, _%_, _≤_, _<_}
 use native.Mathlib.Numerals.{add-one}
 use native.Mathlib.Omega.{arith}
 use borrow.Author.Tests.{eq-eqb, ne-eqb}
 use lib.ListN.{getD}
-use Rattle.image.specs.Words.{pairAt, from}
+use Rattle.image.specs.Words.{quadAt, from}
 use Rattle.image.specs.Check.{wordOf, sumA, sumB, checkA, checkB, isChecked}
 
--- word i, as the code finds it
-pub pair-is : (b : List ℕ) (at i : ℕ) → pairAt b (at + 2 * i) ≡ wordOf (from b at) i
-pair-is b at i = let e : at + 2 * i + 1 ≡ at + (2 * i + 1) = omega arith in ap (λ (k : ℕ). getD b (at + 2 * i) 0 + 256 * getD b k 0) e
+-- words 2i and 2i + 1, as the code finds them in four bytes
+module _ (b : List ℕ) (at i q : ℕ) (small : (j : ℕ) → getD b j 0 < 256) (e : q ≡ quadAt b (at + 4 * i)) where
+  pub two-words : (q % 65536 ≡ wordOf (from b at) (2 * i)) × (q / 65536 ≡ wordOf (from b at) (2 * i + 1))
+  two-words = rw (← p0, ← p1, ← p2, ← p3) (halves _ _ _ _ q (small (at + 4 * i)) (small (at + 4 * i + 1)) e)
+    where
+      p0 : at + 4 * i ≡ at + 2 * (2 * i)
+      p0 = omega arith
 
-pub sumA-more : (f : ℕ → ℕ) (i p x : ℕ) → p ≡ sumA f i → x ≡ wordOf f i → p + x ≡ sumA f (i + 1)
+      p1 : at + 4 * i + 1 ≡ at + (2 * (2 * i) + 1)
+      p1 = omega arith
+
+      p2 : at + 4 * i + 2 ≡ at + 2 * (2 * i + 1)
+      p2 = omega arith
+
+      p3 : at + 4 * i + 3 ≡ at + (2 * (2 * i + 1) + 1)
+      p3 = omega arith
+
+      halves : (b0 b1 b2 b3 q : ℕ) → b0 < 256 → b1 < 256 → q ≡ b0 + 256 * b1 + 65536 * b2 + 16777216 * b3 → (q % 65536 ≡ b0 + 256 * b1) × (q / 65536 ≡ b2 + 256 * b3)
+      halves b0 b1 b2 b3 q h k e = omega arith
+
+sumA-more : (f : ℕ → ℕ) (i p x : ℕ) → p ≡ sumA f i → x ≡ wordOf f i → p + x ≡ sumA f (i + 1)
 unfolding sumA
 sumA-more f i p x e d = rw add-one (cc)
 
-pub sumB-more : (f : ℕ → ℕ) (i p x : ℕ) → p ≡ sumB f i → x ≡ wordOf f i → p + (254 - i) * x ≡ sumB f (i + 1)
+sumB-more : (f : ℕ → ℕ) (i p x : ℕ) → p ≡ sumB f i → x ≡ wordOf f i → p + (254 - i) * x ≡ sumB f (i + 1)
 unfolding sumB
 sumB-more f i p x e d = rw add-one (cc)
+
+-- two words more
+pub sumA-two : (f : ℕ → ℕ) (i p x y : ℕ) → p ≡ sumA f (2 * i) → x ≡ wordOf f (2 * i) → y ≡ wordOf f (2 * i + 1) → p + (x + y) ≡ sumA f (2 * (i + 1))
+sumA-two f i p x y e d h =
+    let n : 2 * i + 1 + 1 ≡ 2 * (i + 1) = omega arith in
+    let t : p + (x + y) ≡ p + x + y = omega arith in
+    t ∙ sumA-more f (2 * i + 1) (p + x) y (sumA-more f (2 * i) p x e d) h ∙ ap (sumA f) n
+
+pub sumB-two : (f : ℕ → ℕ) (i p x y : ℕ) → p ≡ sumB f (2 * i) → x ≡ wordOf f (2 * i) → y ≡ wordOf f (2 * i + 1) → p + ((254 - 2 * i) * x + (253 - 2 * i) * y) ≡ sumB f (2 * (i + 1))
+sumB-two f i p x y e d h =
+    let n : 2 * i + 1 + 1 ≡ 2 * (i + 1) = omega arith in
+    let w : 253 - 2 * i ≡ 254 - (2 * i + 1) = omega arith in
+    apart p _ _ ∙ ap (λ (v : ℕ). p + (254 - 2 * i) * x + v * y) w ∙ sumB-more f (2 * i + 1) (p + (254 - 2 * i) * x) y (sumB-more f (2 * i) p x e d) h ∙ ap (sumB f) n
+  where
+    apart : (p x y : ℕ) → p + (x + y) ≡ p + x + y
+    apart p x y = omega arith
 
 -- ---- bytes that agree have one check
 sumA-same : (f g : ℕ → ℕ) (n m : ℕ) → 2 * n ≤ m → ((j : ℕ) → j < m → f j ≡ g j) → sumA f n ≡ sumA g n

@@ -23,11 +23,23 @@ pub record Within (G n k j : ℕ) : Type 0 where
   pub full : 3 * k < G + 3
   pub place : j < 508
 
+-- a block above 0 that the table has, and bytes that have it
+pub record Headed (b : List ℕ) (G k : ℕ) : Type 0 where
+  pub granules : G ≤ 360
+  pub other : 1 ≤ k
+  pub full : 3 * k < G + 3
+  pub long : k * 512 + 512 ≤ length b
+
 -- r bytes from byte j on are free, and r is 0 only where that byte is fixed
 pub record FreeRun (G n k j r : ℕ) : Type 0 where
   pub free : (i : ℕ) → i < r → isFree G n k (j + i) ≡ true
   pub fixed : r ≡ 0 → isFree G n k j ≡ false
   pub inside : j + r ≤ 508
+
+-- the first r of the bytes f are zero, of so many that are left
+pub record ZeroRun (f : ℕ → ℕ) (left r : ℕ) : Type 0 where
+  pub zero : (i : ℕ) → i < r → f i ≡ 0
+  pub inside : r ≤ left
 
 -- such a byte, in bytes that have its block
 pub record Inside (b : List ℕ) (G n k j : ℕ) : Type 0 where

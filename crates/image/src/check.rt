@@ -1,5 +1,6 @@
 // 'Check: bytes 0..507 as 254 words of 16 bits, w_0 first.'
 use crate::words::pair_at;
+use crate::words::quad_at;
 ghost use mathlib.Core.Path.{_≡_};
 ghost use Prim.Native.Nat.{_+_, _*_, _≤_};
 ghost use lib.ListN.{length};
@@ -14,21 +15,23 @@ pub struct Check {
     pub b: u64,
 }
 
-// 'A = sum of w_i mod 65535, B = sum of (254−i)·w_i mod 65535', of the block that starts at `at`.
+// 'A = sum of w_i mod 65535, B = sum of (254−i)·w_i mod 65535', of the block that starts at `at`: two words a turn.
 pub fn check_of(bytes: &[u8], at: usize) -> Check
     requires { ⌜ at + 512 ≤ length (now bytes) ⌝ }
     ensures { λ r. ⌜ (r .a ≡ checkA (from (now (bytes .entry)) at)) × (r .b ≡ checkB (from (now (bytes .entry)) at)) ⌝ }
 {
-    let mut plain: u64 = 0;
-    let mut weighted: u64 = 0;
-    for i in 0..254 {
-        let word = pair_at(bytes, at + 2 * i);
-        plain += word;
-        weighted += (254 - i as u64) * word;
+    let mut plain: u32 = 0;
+    let mut weighted: u32 = 0;
+    for i in 0..127 {
+        let two = quad_at(bytes, at + 4 * i);
+        let low = two % 65_536;
+        let high = two / 65_536;
+        plain += low + high;
+        weighted += (254 - 2 * (i as u32)) * low + (253 - 2 * (i as u32)) * high;
     }
     Check {
-        a: plain % 65_535,
-        b: weighted % 65_535,
+        a: (plain % 65_535) as u64,
+        b: (weighted % 65_535) as u64,
     }
 }
 

@@ -1,12 +1,16 @@
 // The form of a block: which bytes are free, and what the others are.
 use crate::words::byte_of;
+use crate::words::quad_at;
+use crate::words::wide;
 use crate::words::word_at;
 ghost use mathlib.Core.Path.{_≡_};
 ghost use Prim.Native.Nat.{_*_, _+_, _≤_, _<_};
-ghost use Rattle.image.specs.Words.{block};
+ghost use lib.Dec.{eqb};
+ghost use lib.ListN.{length};
+ghost use Rattle.image.specs.Words.{block, from};
 ghost use Rattle.image.specs.Form.{headByte, isNumber, held, isCoefficient, isFree, fixedByte, isFormed};
-ghost use Rattle.numbers.specs.Lowest.{lowest};
-ghost use Rattle.image.specs.Asked.{Within, FreeRun, Inside, RightRun, Search};
+ghost use Rattle.numbers.specs.Lowest.{lowest, every};
+ghost use Rattle.image.specs.Asked.{Within, Headed, FreeRun, ZeroRun, Inside, RightRun, Search};
 
 // Bytes 0 to 7 of block k.
 fn head_byte(kind: u8, second: u8, k: usize, j: usize) -> u8
@@ -88,7 +92,16 @@ pub fn fixed_byte(count: usize, degree: usize, k: usize, j: usize) -> u8
     head_byte(2, held_in(count, k), k, j)
 }
 
-// How many bytes from byte j of block k on are known to be free: none where it is fixed. A coefficient's eight bytes are free as a whole.
+// Whether bytes 0 to 7 of block k above 0 are right, all in one word: kind 2, edition 1, how many granules, a zero byte, the block's number.
+fn head_right(bytes: &[u8], count: usize, k: usize) -> bool
+    requires { ⌜ Headed (now bytes) count k ⌝ }
+    ensures { λ r. ⌜ r ≡ every (λ j. eqb (block (now (bytes .entry)) k j) (fixedByte count k j)) 8 ⌝ }
+{
+    let granules = wide(held_in(count, k));
+    word_at(bytes, k * 512) == 2 + 256 + 65_536 * granules + 4_294_967_296 * (k as u64)
+}
+
+// How many bytes from byte j of block k on are known to be free: none where it is fixed. A granule's coefficients are free as a whole.
 fn free_from(count: usize, degree: usize, k: usize, j: usize) -> usize
     requires { ⌜ Within count degree k j ⌝ }
     ensures { λ r. ⌜ FreeRun count degree k j r ⌝ }
@@ -99,22 +112,49 @@ fn free_from(count: usize, degree: usize, k: usize, j: usize) -> usize
     if k == 0 {
         return 1;
     }
-    8 - j % 8
+    8 * (degree - (j - 8) / 8 % 16) + 8 - j % 8
 }
 
-// How many bytes from byte j of block k on are known to be right: none where it is wrong. From byte 8 on every fixed byte is zero, so a word of zeros is passed
-// at once.
+// How many of the `left` bytes from `at` on are known to be zero: several words, a word or half a word is looked at at once.
+fn zeros_from(bytes: &[u8], at: usize, left: usize) -> usize
+    requires { ⌜ at + left ≤ length (now bytes) ⌝ }
+    ensures { λ r. ⌜ ZeroRun (from (now (bytes .entry)) at) left r ⌝ }
+{
+    if left < 8 {
+        if 4 <= left && quad_at(bytes, at) == 0 {
+            return 4;
+        }
+        return 0;
+    }
+    if word_at(bytes, at) != 0 {
+        return 0;
+    }
+    if left < 32
+        || word_at(bytes, at + 8) != 0
+        || word_at(bytes, at + 16) != 0
+        || word_at(bytes, at + 24) != 0
+    {
+        return 8;
+    }
+    32
+}
+
+// How many bytes from byte j of block k on are known to be right: none where it is wrong. From byte 8 on every fixed byte is zero.
 fn right_from(bytes: &[u8], count: usize, degree: usize, k: usize, j: usize) -> usize
     requires { ⌜ Inside (now bytes) count degree k j ⌝ }
     ensures { λ r. ⌜ RightRun count degree k (block (now (bytes .entry)) k) j r ⌝ }
 {
+    if j == 0 && k != 0 && head_right(bytes, count, k) {
+        return 8;
+    }
     let free = free_from(count, degree, k, j);
     if free != 0 {
         return free;
     }
-    if 8 <= j && j <= 500 {
-        if word_at(bytes, k * 512 + j) == 0 {
-            return 8;
+    if 8 <= j {
+        let zeros = zeros_from(bytes, k * 512 + j, 508 - j);
+        if zeros != 0 {
+            return zeros;
         }
     }
     if bytes[k * 512 + j] != fixed_byte(count, degree, k, j) {

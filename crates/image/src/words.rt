@@ -28,7 +28,7 @@ pub fn bits_of(number: i64) -> u64
     }
 }
 
-fn wide(byte: u8) -> u64
+pub fn wide(byte: u8) -> u64
     ensures { λ r. ⌜ (r ≡ byte) × (r < 256) ⌝ }
 {
     byte as u64
@@ -44,14 +44,17 @@ pub fn pair_at(bytes: &[u8], at: usize) -> u64
     b0 + 256 * b1
 }
 
-// The number in four bytes.
+// The number in four bytes. They are taken as a part of the whole, and so as one load.
 pub fn quad_at(bytes: &[u8], at: usize) -> u32
     requires { ⌜ at + 4 ≤ length (now bytes) ⌝ }
     ensures { λ r. ⌜ r ≡ quadAt (now (bytes .entry)) at ⌝ }
 {
-    let low = pair_at(bytes, at);
-    let high = pair_at(bytes, at + 2);
-    (low + 65_536 * high) as u32
+    let quad = &bytes[at..at + 4];
+    let b0 = wide(quad[0]);
+    let b1 = wide(quad[1]);
+    let b2 = wide(quad[2]);
+    let b3 = wide(quad[3]);
+    (b0 + 256 * b1 + 65_536 * b2 + 16_777_216 * b3) as u32
 }
 
 // The number in eight bytes.

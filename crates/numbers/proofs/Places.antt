@@ -6,7 +6,7 @@ use mathlib.Core.Logic.{⊎-elim}
 use Prim.Native.Nat.{ℕ, zero, suc, _+_, _≤_, _<_, zero-le}
 use native.Mathlib.Nat.{le-of-suc-le-suc, not-suc-le-zero, eq-or-lt-of-le, le-refl, lt-irrefl}
 use native.Mathlib.Omega.{arith}
-use lib.ListN.{length, getD, take}
+use lib.ListN.{length, getD}
 use lib.Seq.{ext-getD}
 use Rattle.numbers.specs.Lowest.{lowest, every, upTo}
 use Rattle.numbers.proofs.Flags.{never, both}
@@ -121,9 +121,3 @@ upTo-same f g (suc n) e =
     let p = e 0 (suc-le zero-le) in
     let r = upTo-same (λ i. f (suc i)) (λ i. g (suc i)) n (λ i h. e (suc i) (suc-le h)) in
     rw (p, r)
-
-pub take-upTo : {A : Type 0} (f : ℕ → A) (n m : ℕ) → n ≤ m → take n (upTo f m) ≡ upTo f n
-unfolding upTo
-take-upTo f zero m h = refl
-take-upTo f (suc n) zero h = absurd (not-suc-le-zero h)
-take-upTo f (suc n) (suc m) h = rw (take-upTo (λ i. f (suc i)) n m (le-of-suc-le-suc h))

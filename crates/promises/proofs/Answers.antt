@@ -22,10 +22,10 @@ use Rattle.desk.specs.declared.walk.Kept.{Kept}
 use Rattle.desk.specs.Conversion.{coefficientsIn, convertOf}
 use Rattle.desk.specs.Inner.{Held}
 use Rattle.desk.specs.Walk.{stepOf, walkOf}
-use Rattle.desk.proofs.Steps.{steps-are}
+use Rattle.desk.proofs.Steps.{steps-are, stepping}
 use Rattle.promises.specs.Words.{named, tableIn}
 use Rattle.promises.proofs.Readings.{read-valid}
-use Rattle.promises.proofs.Walks.{stepping, came-to, scale-walked, walked, held}
+use Rattle.promises.proofs.Walks.{came-to, scale-walked, walked, held}
 use Rattle.promises.proofs.Steps.{step-valid}
 
 -- ---- a walk from a valid tick ends at one

@@ -17,9 +17,9 @@ use Rattle.dates.specs.declared.reading.Reading.the-variants.{Ticks}
 use Rattle.desk.specs.declared.step.Stepped.the-variants.{Reached}
 use Rattle.desk.specs.Conversion.{coefficientsIn, convertOf}
 use Rattle.desk.specs.Walk.{toTdb}
+use Rattle.desk.proofs.OneStep.{nowhere, tdb-reached}
 use Rattle.promises.specs.Words.{named, heldBy, tableIn, denominatorIn, exactSumIn}
 use Rattle.promises.proofs.Walks.{one-step, tick-walk, held}
-use Rattle.promises.proofs.Steps.{nowhere, tdb-reached}
 
 -- the step over what the bytes hold
 module _ (bytes : List ℕ) (t u : ℤ) where

@@ -18,9 +18,10 @@ use Rattle.desk.specs.declared.walk.Kept.{Kept}
 use Rattle.desk.specs.Conversion.{coefficientsIn, convertOf}
 use Rattle.desk.specs.Inner.{Held}
 use Rattle.desk.specs.Walk.{stepOf, walkOf}
+use Rattle.desk.proofs.OneStep.{step-order}
+use Rattle.desk.proofs.Steps.{stepping}
 use Rattle.promises.specs.Words.{named, tableIn}
-use Rattle.promises.proofs.Walks.{stepping, came-to, reading-walk, tick-read, held}
-use Rattle.promises.proofs.Steps.{step-order}
+use Rattle.promises.proofs.Walks.{came-to, reading-walk, tick-read, held}
 
 -- ---- along a walk
 module _ (kept : Kept) (cs : List ℤ) (h : Held kept cs) (e f : Epoch) (m n : ℕ) where
@@ -30,7 +31,7 @@ module _ (kept : Kept) (cs : List ℤ) (h : Held kept cs) (e f : Epoch) (m n : �
   walk-order (step ∷ more) scale done t u a b l =
       let x = stepping e m (walkOf kept cs more (end step) (suc done)) done (stepOf kept cs step t) a in
       let y = stepping f n (walkOf kept cs more (end step) (suc done)) done (stepOf kept cs step u) b in
-      walk-order more (end step) (suc done) (x .tick) (y .tick) (x .onwards) (y .onwards) (step-order kept cs h t (x .tick) step u (y .tick) (x .reached) (y .reached) l)
+      walk-order more (end step) (suc done) (x .tick) (y .tick) (x .onwards) (y .onwards) (step-order kept cs h step t (x .tick) u (y .tick) (x .reached) (y .reached) l)
 
 -- ---- of two readings of the first scale, read as ticks t and u
 pub readings-in-order : (from to : ℕ) (bytes : List ℕ) (early late : Reading) (t u : ℤ) (e f : Epoch) (m n : ℕ) → readOf early ≡ R.Tick t → readOf late ≡ R.Tick u

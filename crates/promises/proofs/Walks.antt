@@ -44,7 +44,7 @@ use Rattle.desk.specs.Asked.{askedFor, askedOf}
 use Rattle.desk.specs.Conversion.{started, betweenOf, crossedOf, convertAsked, convertJudged, coefficientsIn, convertOf}
 use Rattle.desk.specs.Inner.{Held}
 use Rattle.desk.specs.Walk.{refusing, stepOf, onward, walkOf}
-use Rattle.desk.proofs.Steps.{not-both}
+use Rattle.desk.proofs.Steps.{not-both, stepping}
 use Rattle.promises.specs.Words.{named, heldBy, tableIn}
 use Rattle.promises.proofs.Readings.{unread}
 use Rattle.promises.proofs.Steps.{step-unseen}
@@ -72,19 +72,9 @@ module _ (kept kept' : Kept) (cs cs' : List ℤ) where
       onward-same _ _ (walk-unseen more (n .1) (end step) (suc done)) done (stepOf kept cs step tick)
       ∙ ap (onward (walkOf kept' cs' more (end step) (suc done)) done) (step-unseen kept kept' cs cs' tick step (n .0))
 
--- ---- an accepted walk took each of its steps
+-- ---- an accepted walk
 module _ (epoch : Epoch) (steps : ℕ) where
-  pub record Stepping (rest : ℤ → Answer) (stepped : Stepped) : Type 0 where
-    pub tick : ℤ
-    pub reached : stepped ≡ Reached tick
-    pub onwards : rest tick ≡ Converted epoch steps
-
-  pub stepping : (rest : ℤ → Answer) (done : ℕ) (stepped : Stepped) → onward rest done stepped ≡ Converted epoch steps → Stepping rest stepped
-  stepping rest done (Reached tick) e = record { tick = tick; reached = refl; onwards = e }
-  stepping rest done OutsideTable e = apart e
-  stepping rest done OutsideRange e = apart e
-
-  -- and it came to the tick that it answers
+  -- it came to the tick that it answers
   pub came-to : (kept : Kept) (cs : List ℤ) (scale : Scale) (done : ℕ) (t : ℤ) → walkOf kept cs [] scale done t ≡ Converted epoch steps → t ≡ epoch .tick
   unfolding walkOf tickOf
   came-to kept cs scale done t e = ap tickOf e
@@ -98,7 +88,7 @@ module _ (epoch : Epoch) (steps : ℕ) where
       scaleIn (Converted of n) = of .scale
       scaleIn (Refused r) = from
   scale-walked kept cs (step ∷ more) from to done t l e =
-      let x = stepping (walkOf kept cs more (end step) (suc done)) done (stepOf kept cs step t) e in
+      let x = stepping epoch steps (walkOf kept cs more (end step) (suc done)) done (stepOf kept cs step t) e in
       scale-walked kept cs more (end step) to (suc done) (x .tick) (l .1) (x .onwards)
 
 -- over a path of one step, an answer is where the step came to

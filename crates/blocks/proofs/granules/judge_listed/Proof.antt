@@ -1,5 +1,6 @@
 -- `blocks::granules::judge_listed` meets its contract. After g granules the pass has kept what it says of the first g. Assumes nothing.
 use Prim.Native.Nat.{ℕ, _+_, _*_, _-_, _≤_, _<_, zero-le}
+use Rattle.blocks.proofs.Alike.{alike-same}
 use Rattle.blocks.proofs.Bounding.{Bounds, bounds-told, as-natural}
 use Rattle.blocks.proofs.Scanning.{Scanned, scanned-none, scanned-next, refused-large, scanned-all}
 use Rattle.blocks.specs.Tests.{granuleIn}
@@ -106,7 +107,7 @@ returns c =
     let i = l .before .before in
     let s = i .before .before .before .before .before .before in
     c .refused .ensures
-    ∙ refused-large _ _ (i .before .loop .g) (i .before .loop .scan) _ (own (s .args .coefficients .now) (s .args .table .degree) (i .before .loop .g)) (i .before .loop .inv .1) (s .args .table) (i .loop-test .taken) (sym (l .look-at .ensures) ∙ c .before .enum-told .given .1)
+    ∙ refused-large _ _ (i .before .loop .g) (i .before .loop .scan) _ (alike-same (own (s .args .coefficients .now) (s .args .table .degree) (i .before .loop .g))) (i .before .loop .inv .1) (s .args .table) (i .loop-test .taken) (sym (l .look-at .ensures) ∙ c .before .enum-told .given .1)
 
 enum-known-onward : tie.Need-enum-known-onward Inv-loop μ-loop
 enum-known-onward c = search needs
@@ -123,7 +124,7 @@ loop-again c =
     let l = o .before .before in
     let i = l .before .before in
     let s = i .before .before .before .before .before .before in
-    (omega arith, scanned-next _ _ (i .before .loop .g) (i .before .loop .scan) _ (own (s .args .coefficients .now) (s .args .table .degree) (i .before .loop .g)) (i .before .loop .inv .1) _ (sym (l .look-at .ensures) ∙ o .onward .given .1))
+    (omega arith, scanned-next _ _ (i .before .loop .g) (i .before .loop .scan) _ (alike-same (own (s .args .coefficients .now) (s .args .table .degree) (i .before .loop .g))) (i .before .loop .inv .1) _ (sym (l .look-at .ensures) ∙ o .onward .given .1))
 
 ended-requires : tie.Need-ended-requires Inv-loop μ-loop
 ended-requires c κs = search needs

@@ -1,7 +1,7 @@
 -- `blocks::judging::judge` meets its contract: a test passed at a time, in their order. Assumes nothing.
 use Prim.Native.Nat.{ℕ, _*_, zero-le}
 use Rattle.blocks.proofs.Bounding.{whole-told, bounds-told}
-use Rattle.blocks.proofs.Past.{from12, from13, fromFirst, refused10, past10, refused11, past11, refused-first, past-first, refused13-bound, refused13-blocks, past13, refused12, past12, search-for}
+use Rattle.blocks.proofs.Past.{from12, from13, fromFirst, refused10, past10, refused11, past11, refused-first, past-first, refused13-bound, refused13-blocks, past13, refused12, past12, formed12, search-for}
 use Rattle.blocks.proofs.Verdicts.{one-stop, one-go}
 use Rattle.blocks.specs.Bounds.{isWhole, isBounded}
 use Rattle.blocks.specs.Judging.{tableTests, judged}
@@ -161,7 +161,7 @@ judge-stored-requires c κs =
     let e = fourth f in
     let a = e .before in
     let w = whole-told _ (is-whole (a .before .before .before .before .before .before)) in
-    record { bounded = is-bounded e; long = w .blocks ∙ ap (λ (k : ℕ). k * 512) (f .if5 .left) }
+    record { bounded = is-bounded e; long = w .blocks ∙ ap (λ (k : ℕ). k * 512) (f .if5 .left); formed = formed12 (bytes4 a) (table4 a) _ (c .before .lowest-unformed2 .ensures) (c .if6 .left) (f .if5 .left) }
 
 returns-7 : tie.Need-returns-7
 returns-7 c =

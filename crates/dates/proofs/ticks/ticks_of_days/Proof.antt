@@ -9,7 +9,7 @@ use Rattle.dates.proofs.ticks.ticks_of_days.Statement.{statement}
 use Rattle.dates.proofs.ticks.ticks_of_days.Tie as tie
 
 count-of-requires : tie.Need-count-of-requires
-count-of-requires c κs = (wider 5000000 10000000000 (c .args .x) (lit≤ tt) (c .pre), record { small = lit< tt; some = lit< tt; low = lit≤ tt })
+count-of-requires c κs = (wider 5000000 10000000000 (c .args .x) (lit≤ tt) (c .pre), record { small = lit< tt; high = lit≤ tt; low = lit≤ tt })
 
 mul-span-of : tie.Need-mul-span-of
 mul-span-of c = search needs

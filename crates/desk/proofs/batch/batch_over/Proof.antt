@@ -15,7 +15,10 @@ enum-known-answer-2 : tie.Need-enum-known-answer-2
 enum-known-answer-2 c = search needs
 
 write-all-requires : tie.Need-write-all-requires
-write-all-requires c κs = search needs
+write-all-requires c κs =
+    let a = c .before .before in
+    let t = a .before .before in
+    record { ready = t .before .pre; steps = _; accepted = sym (t .tried .ensures) ∙ a .answer2 .given .1 }
 
 returns : tie.Need-returns
 returns c =

@@ -1,6 +1,6 @@
--- `image::form::free_from` meets its contract: a coefficient's word is free as a whole. Assumes nothing.
-use Prim.Native.Nat.{ℕ, _+_, _-_, _%_, _<_}
-use Rattle.image.proofs.Slots.{slot-told, slot-is, free-more, word-slot}
+-- `image::form::free_from` meets its contract: the rest of a granule's coefficients is free as a whole. Assumes nothing.
+use Prim.Native.Nat.{ℕ, _+_, _-_, _≤_, _<_}
+use Rattle.image.proofs.Slots.{Slot, slot-told, slot-is, free-more, restAt, rest-slot}
 use Rattle.image.specs.Asked.{FreeRun}
 use Rattle.image.specs.Form.{isFree}
 use borrow.Author.Needs.{needs}
@@ -22,14 +22,24 @@ one G n k j e h = record {
   inside = omega arith;
 }
 
-word : (G n k j : ℕ) → isFree G n k j ≡ true → (k ≡ 0 → ⊥) → FreeRun G n k j (8 - j % 8)
-word G n k j e o =
-    let s = slot-told G n k j (sym (free-more G n k j o) ∙ e) in
+rest : (G n k j : ℕ) → Slot G n k j → (k ≡ 0 → ⊥) → n ≤ 15 → FreeRun G n k j (restAt n j)
+rest G n k j s o few =
+    let last = rest-slot G n k j (restAt n j - 1) (omega arith) few s .high in
     record {
-      free = λ i l. free-more G n k (j + i) o ∙ slot-is G n k (j + i) (word-slot G n k j i l s);
+      free = λ i l. free-more G n k (j + i) o ∙ slot-is G n k (j + i) (rest-slot G n k j i l few s);
       fixed = λ z. let w : ⊥ = omega arith in absurd w;
-      inside = omega (arith, s .high);
+      inside = within j (restAt n j) last;
     }
+  where
+    within : (j r : ℕ) → j + (r - 1) < 392 → j + r ≤ 508
+    within j r h = omega arith
+
+-- past both tests the byte is a coefficient's
+slot : (c : tie.Else2) → Slot (c .before .before .before .args .count) (c .before .before .before .args .degree) (c .before .before .before .args .k) (c .before .before .before .args .j)
+slot c =
+    let e = c .before in
+    let s = e .before .before .args in
+    slot-told (s .count) (s .degree) (s .k) (s .j) (sym (free-more (s .count) (s .degree) (s .k) (s .j) (c .if2 .left)) ∙ sym (e .before .is-free .ensures) ∙ not-false _ (e .if1 .left))
 
 is-free-requires : tie.Need-is-free-requires
 is-free-requires c κs = search needs
@@ -41,10 +51,33 @@ returns-2 : tie.Need-returns-2
 returns-2 c = let e = c .before in let s = e .before .before in one (s .args .count) (s .args .degree) (s .args .k) (s .args .j) (sym (e .before .is-free .ensures) ∙ not-false _ (e .if1 .left)) (s .pre .place)
 
 sub-result : tie.Need-sub-result
-sub-result c = search needs
+sub-result c = slot c .low
+
+sub-result-2 : tie.Need-sub-result-2
+sub-result-2 c = slot c .which
+
+mul-result : tie.Need-mul-result
+mul-result c = omega arith
+
+add-result : tie.Need-add-result
+add-result c = omega arith
+
+sub-result-3 : tie.Need-sub-result-3
+sub-result-3 c = omega arith
 
 returns-3 : tie.Need-returns-3
-returns-3 c = let e = c .before in let s = e .before .before in word (s .args .count) (s .args .degree) (s .args .k) (s .args .j) (sym (e .before .is-free .ensures) ∙ not-false _ (e .if1 .left)) (c .if2 .left)
+returns-3 c = let s = c .before .before .before in rest (s .args .count) (s .args .degree) (s .args .k) (s .args .j) (slot c) (c .if2 .left) (s .pre .degree)
 
 pub free-from-spec : {M : Type 1} → statement M
-free-from-spec = tie.close (tie.spec is-free-requires returns returns-2 sub-result returns-3)
+free-from-spec =
+    tie.close
+    (tie.spec
+    is-free-requires
+    returns
+    returns-2
+    sub-result
+    sub-result-2
+    mul-result
+    add-result
+    sub-result-3
+    returns-3)
