@@ -5,21 +5,21 @@ use Prim.Native.Nat.{ℕ}
 use lib.IntN.{ℤ, pos}
 use lib.ListN.{length}
 use Rattle.scales.specs.declared.answer.Answer as scales
-use Rattle.scales.specs.declared.answer.Answer.the-variants as S
+use Rattle.scales.specs.Answers as conversion
 use Rattle.desk.specs.declared.batch.Batched.{Batched}
-use Rattle.desk.specs.declared.batch.Batched.the-variants as B
 use Rattle.desk.specs.Batch.{batchOf, batchInto}
+use Rattle.desk.specs.Batch as batch
 use Rattle.hosts.specs.declared.answers.Answer.{Answer}
-use Rattle.hosts.specs.Answers.{refusedAnswer}
 
+-- a conversion's number, place, tick and steps as the page has them for each case
 abbrev pub convertedAnswer : scales.Answer → Answer
-convertedAnswer (S.Converted epoch steps) = record { number = 0; steps = steps; place = 0; index = 0; tick = epoch .tick }
-convertedAnswer (S.Refused refusal) = refusedAnswer (refusal .number) (refusal .place)
+convertedAnswer answer =
+    record { number = conversion.numberOf answer; steps = conversion.stepsOf answer; place = conversion.placeOf answer; index = 0; tick = conversion.tickOf answer }
 
--- the ticks themselves are in the second list
+-- a batch's; the ticks themselves are in the second list
 abbrev pub batchAnswer : Batched → Answer
-batchAnswer (B.Converted steps) = record { number = 0; steps = steps; place = 0; index = 0; tick = pos 0 }
-batchAnswer (B.Refused refusal index) = record { number = refusal .number; steps = 0; place = refusal .place; index = index; tick = pos 0 }
+batchAnswer batched =
+    record { number = batch.numberOf batched; steps = batch.stepsOf batched; place = batch.placeOf batched; index = batch.indexOf batched; tick = pos 0 }
 
 pub record BatchConverted (from to : ℕ) (ticks answers answers' : List ℤ) (bytes : List ℕ) (r : Answer) : Type 0 where
   pub answer : r ≡ batchAnswer (batchOf from to ticks (length answers) bytes)
