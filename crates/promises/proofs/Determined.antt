@@ -2,7 +2,8 @@
 -- It is stated of `Learnt`, which is what a caller learns from the contract itself. Every public function of every library has its line, in the order of crates.txt
 -- and of the sources. Assumes nothing.
 use mathlib.Core.Path.{_≡_, sym, _∙_, ap, ap₂}
-use mathlib.Core.List.{_++_}
+use mathlib.Core.List.{List, _++_}
+use Prim.Native.Nat.{ℕ}
 use lib.IntN.{ℤ}
 use lib.ListN.{take-append-drop}
 use Rattle.granule.specs.declared.Units.{Units}
@@ -13,8 +14,9 @@ use Rattle.image.proofs as image
 use Rattle.blocks.proofs as blocks
 use Rattle.ephemeris.proofs as ephemeris
 use Rattle.dates.proofs as dates
-use Rattle.line.proofs as line
 use Rattle.desk.proofs as desk
+use Rattle.line.proofs as line
+use Rattle.lines.proofs as lines
 use Rattle.hosts.proofs as hosts
 
 -- what a caller learns of a call: of its lifetimes, its arguments, its result, and its arguments as they are left
@@ -184,22 +186,6 @@ read-date = equation
 pub write-date : One dates.writing.write_date.Reads.Learnt
 write-date = equation
 
--- ---- line
-pub read-line : One line.reading.read_line.Reads.Learnt
-read-line = equation
-
-pub code-of : One line.reading.code_of.Reads.Learnt
-code-of = equation
-
-pub write-answer : OneInto line.writing.write_answer.Reads.Learnt (λ κs s. s .0 .now)
-write-answer = both (λ κs a r s p. (p .after, p .holds))
-
-pub write-refused : OneInto line.writing.write_refused.Reads.Learnt (λ κs s. s .0 .now)
-write-refused = both (λ κs a r s p. (p .after, p .holds))
-
-pub write-line : OneInto line.writing.write_line.Reads.Learnt (λ κs s. s .0 .now)
-write-line = both (λ κs a r s p. (p .after, p .holds))
-
 -- ---- desk
 pub asked-of : One desk.asked.asked_of.Reads.Learnt
 asked-of = equation
@@ -224,6 +210,30 @@ taken = told (λ κs a r s p. sym (take-append-drop (howMany (a .1 .0)) r) ∙ a
 
 pub walk : One desk.walk.walk.Reads.Learnt
 walk = equation
+
+-- ---- line
+pub read-line : One line.reading.read_line.Reads.Learnt
+read-line = equation
+
+pub code-of : One line.reading.code_of.Reads.Learnt
+code-of = equation
+
+pub write-answer : OneInto line.writing.write_answer.Reads.Learnt (λ κs s. s .0 .now)
+write-answer = both (λ κs a r s p. (p .after, p .holds))
+
+pub write-refused : OneInto line.writing.write_refused.Reads.Learnt (λ κs s. s .0 .now)
+write-refused = both (λ κs a r s p. (p .after, p .holds))
+
+pub write-line : OneInto line.writing.write_line.Reads.Learnt (λ κs s. s .0 .now)
+write-line = both (λ κs a r s p. (p .after, p .holds))
+
+-- ---- lines
+pub feed : OneInto {B = List ℕ × List ℕ} lines.feed.Reads.Learnt (λ κs s. (s .0 .now, s .1 .1 .1 .1 .0 .now))
+feed = both (λ κs a r s p.
+    (ap₂ (λ text out. record { text = text; out = out }) (p .kept .after) (p .put .after), ap₂ (λ text out. (text, out)) (p .kept .holds) (p .put .holds)))
+
+pub answer-last : OneInto lines.answer_last.Reads.Learnt (λ κs s. s .1 .1 .1 .0 .now)
+answer-last = both (λ κs a r s p. (p .after, p .holds))
 
 -- ---- hosts
 pub table-answer : One hosts.answers.table_answer.Reads.Learnt

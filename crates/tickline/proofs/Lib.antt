@@ -1,9 +1,2 @@
--- The laws of the program. `Program`: all of it, over the table's bytes. `Pieces`: an input that comes in pieces is answered as the whole of it. `Splits`: a
--- text's whole lines and its unfinished one. For the code: `Lending` (the table), `Held` (no line that is printed is longer than the longest), `Parts` (the
--- front of a buffer).
-pub mod Splits
-pub mod Pieces
-pub mod Program
-pub mod Lending
-pub mod Held
-pub mod Parts
+-- The laws of the program's text. `Fronts`: the unfinished line at its front.
+pub mod Fronts

@@ -1,14 +1,11 @@
 // The line program: '`tickline` reads lines of standard input'. 'The table is the file `table.blk`', read once and judged once.
-// Files are touched here, in `descriptors` and in `table` alone. What is printed for what is read is decided in `lines`, and that is proved.
+// Files are touched here, in `descriptors` and in `table` alone. What is printed for what is read is decided in the library `lines`.
 mod descriptors;
-mod lines;
 mod table;
 
 use crate::descriptors::Came;
 use crate::descriptors::read_some;
 use crate::descriptors::write_whole;
-use crate::lines::answer_last;
-use crate::lines::feed;
 use crate::table::table_bytes;
 use blocks::answer::Judged;
 use blocks::judging::judge;
@@ -17,6 +14,8 @@ use desk::opened::taken;
 use libc::STDIN_FILENO;
 use libc::STDOUT_FILENO;
 use line::writing::LONGEST;
+use lines::answer_last;
+use lines::feed;
 ghost use mathlib.Core.Path.{_≡_};
 ghost use lib.ListN.{length};
 ghost use Rattle.tickline.specs.Buffers.{Waiting, Left, Buffered, Large};

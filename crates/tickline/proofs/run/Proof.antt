@@ -11,7 +11,8 @@ use Rattle.blocks.specs.declared.answer.Judged.{Judged}
 use Rattle.tickline.specs.declared.Outcome.{Outcome}
 use Rattle.tickline.specs.declared.Outcome.the-variants.{Kept, Ended}
 use Rattle.tickline.specs.Buffers.{Buffered, Front, Waiting, Left}
-use Rattle.tickline.proofs.Parts.{put-inside, front-nothing}
+use Rattle.lines.proofs.Parts.{put-inside}
+use Rattle.tickline.proofs.Fronts.{front-nothing}
 use Rattle.tickline.proofs.run.Statement.{statement}
 use Rattle.tickline.proofs.run.Tie as tie
 

@@ -4,8 +4,7 @@ use mathlib.Core.Path.{_≡_, sym, _∙_}
 use lib.Seq.{length-take-le}
 use Rattle.blocks.specs.declared.answer.Judged.the-variants.{Accepted}
 use Rattle.blocks.specs.Judging.{judged}
-use Rattle.desk.proofs.Opening.{few}
-use Rattle.tickline.proofs.Lending.{lent-accepted, lent-refused}
+use Rattle.desk.proofs.Opening.{table-lent, lent-refused, few}
 use Rattle.tickline.proofs.run_over.Statement.{statement}
 use Rattle.tickline.proofs.run_over.Tie as tie
 
@@ -35,7 +34,7 @@ run-requires c κs =
     let many = c .before .before .before in
     let k = many .before .before in
     record {
-      lent = rw (many .how-many .ensures, many .before .taken .ensures .front) (lent-accepted _ _ (opened k));
+      lent = rw (many .how-many .ensures, many .before .taken .ensures .front) (table-lent _ _ (opened k));
       large = k .before .before .before .before .before .before .before .pre;
     }
 

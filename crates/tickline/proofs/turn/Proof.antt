@@ -7,7 +7,8 @@ use native.Mathlib.Omega.{arith}
 use lib.ListN.{length}
 use lib.Seq.{length-take-le}
 use Rattle.tickline.specs.Buffers.{Front}
-use Rattle.tickline.proofs.Parts.{put-inside, front-kept, came-within, front-stays}
+use Rattle.lines.proofs.Parts.{put-inside}
+use Rattle.tickline.proofs.Fronts.{front-kept, came-within, front-stays}
 use Rattle.tickline.proofs.turn.Statement.{statement}
 use Rattle.tickline.proofs.turn.Tie as tie
 

@@ -4,7 +4,7 @@ use mathlib.Core.Path.{_≡_, _∙_}
 use native.Mathlib.Omega.{arith}
 use Prim.Native.Nat.{_+_, _-_, _≤_}
 use lib.ListN.{length}
-use Rattle.tickline.proofs.Parts.{came-within}
+use Rattle.tickline.proofs.Fronts.{came-within}
 use Rattle.tickline.proofs.table.read_whole.Statement.{statement}
 use Rattle.tickline.proofs.table.read_whole.Tie as tie
 

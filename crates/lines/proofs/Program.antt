@@ -25,8 +25,8 @@ use Rattle.line.specs.Numbers.{numberOf}
 use Rattle.line.specs.Lines.{fields, three, lineOf}
 use Rattle.line.specs.Texts.{lineText}
 use Rattle.line.proofs.Cases.{either}
-use Rattle.tickline.specs.Output.{linesOf, answerTo, printedFor, printedLines, outputOf, ticklineOf, outputInPieces, joined}
-use Rattle.tickline.proofs.Pieces.{in-pieces}
+use Rattle.lines.specs.Output.{linesOf, answerTo, printedFor, printedLines, outputOf, ticklineOf, outputInPieces, joined}
+use Rattle.lines.proofs.Pieces.{in-pieces}
 
 -- ---- a table that was refused has no use for coefficients
 module _ (refusal : Refusal) (one other : List ℤ) where

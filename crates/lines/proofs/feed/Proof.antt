@@ -1,14 +1,14 @@
--- `tickline::lines::feed` meets its contract: what is kept begins where the whole lines end. Assumes nothing.
+-- `lines::feed` meets its contract: what is kept begins where the whole lines end. Assumes nothing.
 use borrow.Author.Needs.{needs}
 use mathlib.Core.Path.{_≡_, sym, _∙_, ap}
 use Prim.Native.Nat.{ℕ}
 use native.Mathlib.Omega.{arith}
 use lib.ListN.{length, take, drop}
 use lib.Seq.{length-take-le}
-use Rattle.tickline.specs.Output.{unfinished, keptOf}
-use Rattle.tickline.proofs.Splits.{whole-short, after-whole}
-use Rattle.tickline.proofs.lines.feed.Statement.{statement}
-use Rattle.tickline.proofs.lines.feed.Tie as tie
+use Rattle.lines.specs.Output.{unfinished, keptOf}
+use Rattle.lines.proofs.Splits.{whole-short, after-whole}
+use Rattle.lines.proofs.feed.Statement.{statement}
+use Rattle.lines.proofs.feed.Tie as tie
 
 slice-reshare-prefix-answer-whole : tie.Need-slice-reshare-prefix-answer-whole
 slice-reshare-prefix-answer-whole c = search needs

@@ -1,36 +1,17 @@
--- The front of a buffer: what was put there, and what stays where the rest is read into. Assumes nothing.
+-- The front of the text: the unfinished line that is kept there, and that stays where the rest is read into. Assumes nothing.
 use borrow.Rule.Slice.PartMut.{midOf, putMid, mid-len, take-put}
-use mathlib.Core.Path.{_≡_, refl, _∙_, ap, subst}
-use mathlib.Core.List.{List, [], _++_}
+use mathlib.Core.Path.{_≡_, subst}
+use mathlib.Core.List.{List}
 use Prim.Native.Nat.{ℕ, _+_, _-_, _≤_}
 use native.Mathlib.Omega.{arith}
-use lib.ListN.{length, take, drop, length-append, length-take}
-use lib.Seq.{take-at}
-use Rattle.line.specs.Buffers.{withText, Put}
+use lib.ListN.{length, length-take}
+use Rattle.line.specs.Buffers.{Put}
+use Rattle.lines.specs.Output.{unfinished, keptOf}
+use Rattle.lines.proofs.Parts.{put-front}
+use Rattle.lines.proofs.Splits.{nothing-plain, plain-front, unfinished-plain}
 use Rattle.tickline.specs.declared.descriptors.Came.{Came}
 use Rattle.tickline.specs.declared.descriptors.Came.the-variants.{Bytes}
-use Rattle.tickline.specs.Output.{unfinished, keptOf}
 use Rattle.tickline.specs.Buffers.{CameWithin, Front}
-use Rattle.tickline.proofs.Splits.{nothing-plain, plain-front, unfinished-plain}
-
--- ---- a text put at the front
-pub put-nothing : (out : List ℕ) → Put out 0 [] out 0
-unfolding withText
-put-nothing out = record { holds = refl; after = refl }
-
-module _ {out text out' : List ℕ} {next : ℕ} (put : Put out 0 text out' next) where
-  is : out' ≡ text ++ drop (0 + length text) out
-  unfolding withText
-  is = put .holds
-
-  size : length text ≡ next
-  size = omega (arith, put .after)
-
-  pub put-inside : next ≤ length out'
-  put-inside = omega (arith, size, ap length is, length-append text (drop (0 + length text) out))
-
-  pub put-front : take next out' ≡ text
-  put-front = ap (take next) is ∙ take-at text (drop (0 + length text) out) next size
 
 -- ---- an unfinished line kept there
 pub front-nothing : (text : List ℕ) → Front text 0

@@ -10,7 +10,7 @@ use lib.Seq.{drop-append-seam}
 use Rattle.numbers.proofs.Flags.{never, or-told, or-neither}
 use Rattle.line.specs.Lines.{startingWith}
 use Rattle.line.proofs.Cases.{either}
-use Rattle.tickline.specs.Output.{linesOf, hasNewline, wholeLines, unfinished}
+use Rattle.lines.specs.Output.{linesOf, hasNewline, wholeLines, unfinished}
 
 -- ---- the first byte
 newline-after : (byte : ℕ) (more : List ℕ) → eqb byte 10 ≡ false → hasNewline (byte ∷ more) ≡ true → hasNewline more ≡ true

@@ -1,4 +1,4 @@
--- `tickline::lines::answer_line` meets its contract: the line's numbers, their conversion, its answer's line. Assumes nothing.
+-- `lines::answer_line` meets its contract: the line's numbers, their conversion, its answer's line. Assumes nothing.
 use borrow.Author.Needs.{needs}
 use mathlib.Core.Path.{_≡_, sym, _∙_, subst}
 use mathlib.Core.List.{List}
@@ -18,11 +18,11 @@ use Rattle.line.specs.declared.reading.Line.the-variants.{Numbers, Refused}
 use Rattle.line.specs.Lines.{lineOf, codeOf}
 use Rattle.line.specs.Texts.{lineText, refusedLine}
 use Rattle.line.specs.Buffers.{longest, Put}
-use Rattle.tickline.specs.Output.{printedFor}
-use Rattle.tickline.specs.Buffers.{Printed}
-use Rattle.tickline.proofs.Held.{short, short-refused}
-use Rattle.tickline.proofs.lines.answer_line.Statement.{statement}
-use Rattle.tickline.proofs.lines.answer_line.Tie as tie
+use Rattle.lines.specs.Output.{printedFor}
+use Rattle.lines.specs.Buffers.{Printed}
+use Rattle.lines.proofs.Held.{short, short-refused}
+use Rattle.lines.proofs.answer_line.Statement.{statement}
+use Rattle.lines.proofs.answer_line.Tie as tie
 
 module _ {line : List ℕ} {table : Judged} {coefficients : List ℤ} {out : List ℕ} {at : ℕ} {out' : List ℕ} {next : ℕ} where
   printed : {text : List ℕ} → printedFor table coefficients line ≡ text → Put out at text out' next → length text ≤ longest → Printed line table coefficients out at out' next

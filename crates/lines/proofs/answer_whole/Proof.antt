@@ -1,4 +1,4 @@
--- `tickline::lines::answer_whole` meets its contract. The invariant: the whole lines of the bytes passed are answered. Assumes nothing.
+-- `lines::answer_whole` meets its contract. The invariant: the whole lines of the bytes passed are answered. Assumes nothing.
 use borrow.Author.Needs.{needs}
 use borrow.Author.Tests.{ne-eqb}
 use mathlib.Core.Path.{_≡_, refl, sym, _∙_, ap}
@@ -13,13 +13,13 @@ use lib.Seq.{length-take-le, take-suc, take-all, take-add, drop-at}
 use Rattle.blocks.specs.declared.answer.Judged.{Judged}
 use Rattle.line.specs.Buffers.{longest, Put}
 use Rattle.line.proofs.Filling.{kept, then-text}
-use Rattle.tickline.specs.Output.{outputOf, wholeLines, unfinished, printedFor}
-use Rattle.tickline.specs.Buffers.{Answered, Printed}
-use Rattle.tickline.proofs.Splits.{whole-short, after-whole, whole-grown, whole-ended}
-use Rattle.tickline.proofs.Parts.{put-nothing}
-use Rattle.tickline.proofs.Pieces.{output-newline, output-nothing}
-use Rattle.tickline.proofs.lines.answer_whole.Statement.{statement}
-use Rattle.tickline.proofs.lines.answer_whole.Tie as tie
+use Rattle.lines.specs.Output.{outputOf, wholeLines, unfinished, printedFor}
+use Rattle.lines.specs.Buffers.{Answered, Printed}
+use Rattle.lines.proofs.Splits.{whole-short, after-whole, whole-grown, whole-ended}
+use Rattle.lines.proofs.Parts.{put-nothing}
+use Rattle.lines.proofs.Pieces.{output-newline, output-nothing}
+use Rattle.lines.proofs.answer_whole.Statement.{statement}
+use Rattle.lines.proofs.answer_whole.Tie as tie
 
 record Passed (text : List ℕ) (table : Judged) (coefficients : List ℤ) (out₀ : List ℕ) (out : List ℕ) (start end i : ℕ) : Type 0 where
   inside : i ≤ length text

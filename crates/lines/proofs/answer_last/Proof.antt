@@ -1,12 +1,12 @@
--- `tickline::lines::answer_last` meets its contract. Assumes nothing.
+-- `lines::answer_last` meets its contract. Assumes nothing.
 use borrow.Author.Needs.{needs}
 use Prim.Native.Nat.{_≤_}
 use native.Mathlib.Omega.{arith}
 use lib.ListN.{length}
-use Rattle.tickline.proofs.Parts.{put-nothing}
-use Rattle.tickline.proofs.Pieces.{output-none, output-last}
-use Rattle.tickline.proofs.lines.answer_last.Statement.{statement}
-use Rattle.tickline.proofs.lines.answer_last.Tie as tie
+use Rattle.lines.proofs.Parts.{put-nothing}
+use Rattle.lines.proofs.Pieces.{output-none, output-last}
+use Rattle.lines.proofs.answer_last.Statement.{statement}
+use Rattle.lines.proofs.answer_last.Tie as tie
 
 returns : tie.Need-returns
 returns c = let a = c .before .before .before .args in rw (output-none (a .judged) (a .coefficients .now) (a .text .now) (c .if1 .taken)) (put-nothing (a .out .now))

@@ -1,4 +1,4 @@
--- `tickline::lines::keep` meets its contract. The invariant: as many bytes as are counted stand at the front; those that are still to be moved are as they were,
+-- `lines::keep` meets its contract. The invariant: as many bytes as are counted stand at the front; those that are still to be moved are as they were,
 -- since none is moved to a place behind its own. Assumes nothing.
 use borrow.Author.Needs.{needs}
 use mathlib.Core.Path.{_≡_, sym, _∙_, ap}
@@ -10,10 +10,10 @@ use lib.ListN.{length, getD, set, take, drop, length-drop}
 use lib.Seq.{length-take-le, take-suc, take-all, getD-take, getD-drop, getD-append-add}
 use Rattle.line.specs.Buffers.{withText, Put}
 use Rattle.line.proofs.Filling.{kept as same-long, then-byte}
-use Rattle.tickline.specs.Buffers.{Moving}
-use Rattle.tickline.proofs.Parts.{put-nothing}
-use Rattle.tickline.proofs.lines.keep.Statement.{statement}
-use Rattle.tickline.proofs.lines.keep.Tie as tie
+use Rattle.lines.specs.Buffers.{Moving}
+use Rattle.lines.proofs.Parts.{put-nothing}
+use Rattle.lines.proofs.keep.Statement.{statement}
+use Rattle.lines.proofs.keep.Tie as tie
 
 -- the bytes that may be moved
 abbrev part : List ℕ → ℕ → ℕ → List ℕ

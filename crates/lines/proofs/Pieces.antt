@@ -13,8 +13,8 @@ use Rattle.blocks.specs.declared.answer.Judged.{Judged}
 use Rattle.line.specs.Lines.{lineOf}
 use Rattle.line.specs.Texts.{refusedLine}
 use Rattle.line.proofs.Cases.{either}
-use Rattle.tickline.specs.Output.{linesOf, printedFor, printedLines, outputOf, hasNewline, wholeLines, unfinished, keptOf, outputInPieces, joined}
-use Rattle.tickline.proofs.Splits.{plain-front, has-grown, whole-then, unfinished-plain, whole-ended, lines-whole, lines-ended, lines-last}
+use Rattle.lines.specs.Output.{linesOf, printedFor, printedLines, outputOf, hasNewline, wholeLines, unfinished, keptOf, outputInPieces, joined}
+use Rattle.lines.proofs.Splits.{plain-front, has-grown, whole-then, unfinished-plain, whole-ended, lines-whole, lines-ended, lines-last}
 
 module _ (table : Judged) (coefficients : List ℤ) where
   -- over one table

@@ -11,8 +11,8 @@ use line::writing::write_line;
 use line::writing::write_refused;
 ghost use lib.ListN.{take, drop};
 ghost use Rattle.line.specs.Buffers.{Put};
-ghost use Rattle.tickline.specs.Output.{outputOf};
-ghost use Rattle.tickline.specs.Buffers.{Answering, Printed, Fed, Unfinished, Ready, Filled, Moving, Answered};
+ghost use Rattle.lines.specs.Output.{outputOf};
+ghost use Rattle.lines.specs.Buffers.{Answering, Printed, Fed, Unfinished, Ready, Filled, Moving, Answered};
 
 // A place in the text and one in the output.
 pub struct Places {
