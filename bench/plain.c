@@ -16,7 +16,6 @@ void *memcpy(void *, const void *, u64);
 typedef struct { u32 number; u64 place; u64 index; } refusal;
 typedef struct { i64 start; i64 length; u32 count; u32 degree; const i64 *coefficients; } table;
 typedef struct { u32 number; u64 place; double first; double second; } date;
-typedef struct { u32 number; u64 place; i64 tick; } tick_read;
 
 static const i128 L_G = 6969290134, D_G = (i128)10000000000 * 1000000000;
 static const i128 L_B = 1550519768, D_B = 100000000000000000;
@@ -121,31 +120,6 @@ BATCH(tdb_to_tcb, step_tdb_to_tcb)
 BATCH(tt_to_tdb, step_tt_to_tdb)
 BATCH(tdb_to_tt, step_tdb_to_tt)
 BATCH(gps_to_tcb, step_gps_to_tai, step_tai_to_tt, step_tt_to_tdb, step_tdb_to_tcb)
-
-static i128 ticks_of(double days) {
-    u64 bits;
-    memcpy(&bits, &days, sizeof bits);
-    int field = bits >> 52 & 0x7ff;
-    i64 digits = bits & (((u64)1 << 52) - 1);
-    if (field == 0) field = 1;
-    else digits |= (i64)1 << 52;
-    int right = 1075 - field;
-    if (right > 120) return 0;
-    return ((i128)(bits >> 63 ? -digits : digits) * DAY + ((i128)1 << (right - 1))) >> right;
-}
-
-static int finite(double x) { return x - x == 0; }
-static int beyond(double x) { return x > 5000000.0 || x < -5000000.0; }
-
-tick_read plain_read_date(double first, double second) {
-    if (!finite(first)) return (tick_read){2, 0, 0};
-    if (!finite(second)) return (tick_read){2, 1, 0};
-    if (beyond(first)) return (tick_read){3, 0, 0};
-    if (beyond(second)) return (tick_read){3, 1, 0};
-    i128 tick = ticks_of(first) + ticks_of(second) - (i128)211087684832184 * 1000000;
-    if (tick < -6000000000000000000 || 6000000000000000000 < tick) return (tick_read){4, 0, 0};
-    return (tick_read){0, 0, (i64)tick};
-}
 
 date plain_write_date(i64 tick) {
     if (!valid(tick)) return (date){4, 0, 0, 0};

@@ -94,9 +94,9 @@ pub fn write_table(table: Table, coefficients: &[i64]) -> Vec<u8> {
     image
 }
 
-/// A date in TT, read as a tick of TT: no step is walked, and no table looked at.
-pub fn read_date(first: f64, second: f64) -> Answer {
-    unsafe { archive::colliedash_convert_date(3, 3, first, second, std::ptr::null(), 0) }
+/// A date, along a path that looks at no table.
+pub fn convert_date(from: u32, to: u32, first: f64, second: f64) -> Answer {
+    unsafe { archive::colliedash_convert_date(from, to, first, second, std::ptr::null(), 0) }
 }
 
 pub fn batch(from: u32, to: u32, ticks: &[i64], answers: &mut [i64], table: &[u8]) -> Answer {

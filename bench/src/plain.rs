@@ -1,6 +1,7 @@
 //! Plain Rust for the same answers, as a good engineer would write it from the rule book: products in 128 bits, a table decoded once, no proofs, no tricks.
 
 pub mod batch;
+pub mod convert;
 pub mod dates;
 pub mod judge;
 pub mod line;

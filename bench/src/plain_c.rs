@@ -19,14 +19,6 @@ pub struct Table {
     coefficients: *const i64,
 }
 
-#[repr(C)]
-#[derive(Clone, Copy, Debug, PartialEq)]
-pub struct Read {
-    pub number: u32,
-    pub place: u64,
-    pub tick: i64,
-}
-
 pub type Batch = unsafe extern "C" fn(*const i64, usize, *mut i64, *const Table) -> Refusal;
 
 macro_rules! batches {
@@ -39,7 +31,6 @@ macro_rules! batches {
 batches! { plain_tcg_to_tt plain_tt_to_tcg plain_tcb_to_tdb plain_tdb_to_tcb plain_tt_to_tdb plain_tdb_to_tt plain_gps_to_tcb }
 
 unsafe extern "C" {
-    pub safe fn plain_read_date(first: f64, second: f64) -> Read;
     pub safe fn plain_write_date(tick: i64) -> crate::ours::Date;
 }
 

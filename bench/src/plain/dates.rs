@@ -27,7 +27,6 @@ fn ticks(days: f64) -> i128 {
     (i128::from(signed) * i128::from(DAY) + (1 << (right - 1))) >> right
 }
 
-#[inline(never)]
 pub fn read(first: f64, second: f64) -> Result<i64, Refusal> {
     let parts = [first, second];
     if let Some(part) = parts.iter().position(|part| !part.is_finite()) {

@@ -1,63 +1,27 @@
 //! The line program: any path, over a table that was judged once.
 
 use super::Refusal;
+use super::convert::Path;
 use super::judge::judge;
-use super::scales::{gps_to_tai, tai_to_tt, tcb_to_tdb, tcg_to_tt, tdb_to_tcb, tt_to_tcg, valid};
+use super::scales::valid;
 use super::table::Table;
 use std::io::{self, BufRead, BufWriter, Write};
 
-const GPS: u32 = 1;
-const TAI: u32 = 2;
-const TT: u32 = 3;
-const TCG: u32 = 4;
-const TDB: u32 = 5;
-const TCB: u32 = 6;
-
 type Judged = Result<Table, Refusal>;
 
-/// The next step on the way to a scale: where it leads, in how many ticks.
-fn step(from: u32, to: u32, tick: i64, judged: &Judged) -> Result<(u32, i64), u32> {
-    let table = || judged.as_ref().map_err(|refusal| refusal.number);
-    Ok(match (from, to) {
-        (GPS, _) => (TAI, gps_to_tai(tick)),
-        (TAI, GPS) => (GPS, tick - gps_to_tai(0)),
-        (TAI, _) => (TT, tai_to_tt(tick)),
-        (TT, GPS | TAI) => (TAI, tick - tai_to_tt(0)),
-        (TT, TCG) => (TCG, tt_to_tcg(tick)),
-        (TT, _) if !table()?.covers(tick) => return Err(6),
-        (TT, _) => (TDB, table()?.tdb(tick)),
-        (TCG, _) => (TT, tcg_to_tt(tick)),
-        (TDB, TCB) => (TCB, tdb_to_tcb(tick)),
-        (TDB, _) => (TT, table()?.earliest(tick).ok_or(6u32)?),
-        _ => (TDB, tcb_to_tdb(tick)),
-    })
-}
-
-fn scale(code: i64) -> Result<u32, u32> {
-    match code {
-        0 => Ok(TT),
-        1..=6 => Ok(code as u32),
-        _ => Err(1),
-    }
-}
-
 /// The tick and the steps, or the refusal's number.
-fn convert(from: i64, to: i64, mut tick: i64, judged: &Judged) -> Result<(i64, u32), u32> {
-    let (mut from, to) = (scale(from)?, scale(to)?);
-    if (from >= TDB) != (to >= TDB) {
-        judged.as_ref().map_err(|refusal| refusal.number)?;
+fn convert(from: i64, to: i64, tick: i64, judged: &Judged) -> Result<(i64, u32), u32> {
+    let code = |number: i64| u32::try_from(number).unwrap_or(u32::MAX);
+    let path = Path::new(code(from), code(to)).map_err(|refusal| refusal.number)?;
+    let table = if path.crosses() {
+        Some(judged.as_ref().map_err(|refusal| refusal.number)?)
+    } else {
+        None
+    };
+    if !valid(tick) {
+        return Err(4);
     }
-    let mut steps = 0;
-    loop {
-        if !valid(tick) {
-            return Err(4);
-        }
-        if from == to {
-            return Ok((tick, steps));
-        }
-        (from, tick) = step(from, to, tick, judged)?;
-        steps += 1;
-    }
+    path.walk(tick, table).map_err(|refusal| refusal.number)
 }
 
 /// An optional minus and 1 to 20 digits that fit.

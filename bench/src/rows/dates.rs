@@ -2,13 +2,17 @@
 
 use super::{ROUNDS, print_row};
 use crate::inputs::at_random;
-use crate::plain::dates::{read, write};
+use crate::plain::Refusal;
+use crate::plain::convert::convert_date;
+use crate::plain::dates::write;
 use crate::timing::Side;
 use crate::{ours, plain_c};
+use std::hint::black_box;
 
 const MANY: usize = 100_000;
+const TT: u32 = 3;
 
-/// All sides write each tick alike, and read what was written alike, and refuse alike what is no date.
+/// All sides write each tick alike, and convert what was written alike, and refuse alike what is no date.
 fn compare(ticks: &[i64]) {
     for tick in ticks.iter().copied().chain([i64::MIN, i64::MAX]) {
         let ours = ours::write_date(tick);
@@ -17,7 +21,7 @@ fn compare(ticks: &[i64]) {
         let dated = |(first, second)| (0, first, second);
         let rust = rust.map_or_else(|refusal| (refusal.number, 0.0, 0.0), dated);
         assert_eq!((ours.number, ours.first, ours.second), rust);
-        compare_read(ours.first, ours.second);
+        compare_converted(ours.first, ours.second);
     }
     let odd = [
         0.0,
@@ -31,19 +35,21 @@ fn compare(ticks: &[i64]) {
     ];
     for first in odd {
         for second in odd {
-            compare_read(first, second);
+            compare_converted(first, second);
         }
     }
 }
 
-fn compare_read(first: f64, second: f64) {
-    let ours = ours::read_date(first, second);
-    let told = (ours.number, ours.place, ours.tick);
-    let rust = read(first, second);
-    let c = plain_c::plain_read_date(first, second);
-    let read = |tick| (0, 0, tick);
-    assert_eq!(told, rust.map_or_else(|r| (r.number, r.place, 0), read));
-    assert_eq!(told, (c.number, c.place, c.tick));
+/// Along paths that look at no table, of no step and of more, and with codes that are none.
+fn compare_converted(first: f64, second: f64) {
+    for (from, to) in [(3, 3), (0, 4), (1, 3), (7, 3), (3, 7)] {
+        let ours = ours::convert_date(from, to, first, second);
+        let told = (ours.number, ours.place, ours.tick, ours.steps);
+        let rust = convert_date(from, to, first, second, &[]);
+        let converted = |(tick, steps)| (0, 0, tick, steps);
+        let refused = |r: Refusal| (r.number, r.place, 0, 0);
+        assert_eq!(told, rust.map_or_else(refused, converted));
+    }
 }
 
 /// Hands every entry to one side and keeps what a host wants of the answer.
@@ -68,21 +74,20 @@ pub fn rows() {
     compare(&ticks);
     let dates: Vec<(f64, f64)> = ticks.iter().map(|tick| write(*tick).unwrap()).collect();
 
-    let mut kept = [(); 3].map(|_| ticks.clone());
-    let [a, b, c] = &mut kept;
+    let mut kept = [(); 2].map(|_| ticks.clone());
+    let [a, b] = &mut kept;
     print_row(
         "reading a two-part date",
         MANY,
         ROUNDS,
         vec![
             each(&dates, a, |(first, second)| {
-                let read = ours::read_date(first, second);
-                accepted(read.number, read.tick)
+                let answer = ours::convert_date(black_box(TT), TT, first, second);
+                accepted(answer.number, answer.tick)
             }),
-            each(&dates, b, |(first, second)| read(first, second).ok()),
-            each(&dates, c, |(first, second)| {
-                let read = plain_c::plain_read_date(first, second);
-                accepted(read.number, read.tick)
+            each(&dates, b, |(first, second)| {
+                let answer = convert_date(black_box(TT), TT, first, second, &[]);
+                answer.ok().map(|(tick, _)| tick)
             }),
         ],
     );

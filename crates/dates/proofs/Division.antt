@@ -18,8 +18,7 @@ use lib.Ieee.Order.{drop, kept}
 use lib.Ieee.Scale.{round-same, round-val, grid}
 use lib.Ieee.Back.{round-whole}
 use Rattle.dates.specs.Ticks.{dayTicks, nearestTick}
-use Rattle.dates.proofs.Halves.{sized}
-use Rattle.dates.proofs.Values.{ticks-of}
+use Rattle.dates.proofs.Values.{sized, ticks-of}
 
 -- ---- a whole number is cast exactly
 pub whole-value : (n : ℕ) → n ≤ 2 ^ 53 → HasValue (ofInt binary64 (pos n)) false n 1
@@ -133,8 +132,8 @@ module _ (t : ℕ) (h : t < dayTicks) where
   pub part-ticks : nearestTick dayTicks (partOfDay t) ≡ pos t
   part-ticks =
       let g = grid binary64 t dayTicks in
-      ticks-of (partOfDay t) false g unit dayTicks (pow-pos 1074) part-value
-      ∙ sized false (g * dayTicks) unit t (pow-pos 1074) (nearest-size t g unit share h day-share (error t dayTicks (lit< tt) h))
+      ticks-of (partOfDay t) g unit dayTicks (pow-pos 1074) part-value
+      ∙ sized (g * dayTicks) unit t (pow-pos 1074) (nearest-size t g unit share h day-share (error t dayTicks (lit< tt) h))
 
 -- ---- a half of a whole number is exact
 pub half-value : (n : ℕ) → n < 2 ^ 53 → HasValue (div binary64 (ofInt binary64 (pos n)) (ofInt binary64 (pos 2))) false n 2

@@ -2,14 +2,14 @@
 use mathlib.Core.Path.{_≡_, ap, _∙_}
 use mathlib.Core.Logic.{_⊎_, inl, inr}
 use mathlib.Core.Bool.{Bool, true, false, _||_, not, false≢true}
-use Prim.Native.Nat.{ℕ, _+_, _*_, _≤_, _<_}
+use Prim.Native.Nat.{ℕ, _+_, _*_, _≤_}
 use native.Mathlib.Nat.{mul-pos, le-of-lt, le-of-eq, mul-comm}
 use native.Mathlib.Omega.{arith}
-use lib.Dec.{T, eqb, ltb→lt, eqb→eq, lit<}
+use lib.Dec.{T, eqb, ltb→lt, eqb→eq}
 use lib.IntN.{ℤ, pos, _+ℤ_, _*ℤ_}
 use lib.Signed.{_≤ℤ_}
 use lib.Ieee.{Float, nan, inf, fin, up, down, le, lt, eq, below, level}
-use lib.Ieee.Fits.{down-pos, and-l, and-r}
+use lib.Ieee.Fits.{and-l, and-r}
 use lib.Ieee.Scale.{finite}
 use Rattle.numbers.specs.Rounding.{nearest}
 use Rattle.numbers.proofs.Differences.{rep₃, lin}
@@ -24,7 +24,7 @@ use Rattle.dates.specs.Doubles.{signed, numerator, denominator, beyond}
 use Rattle.dates.specs.Ticks.{nearestTick, secondTicks, j2000, tickOfSeconds}
 use Rattle.dates.specs.Readings.{inRange, readOf, refusing, mostSeconds}
 use Rattle.dates.specs.Answers.{Accepts, numberOf, tickOf}
-use Rattle.dates.proofs.Halves.{signed-times}
+use Rattle.dates.proofs.Values.{den-pos, signed-times}
 
 -- ---- the order of two doubles is that of their exact values
 either : (a b : Bool) → a || b ≡ true → (T a) ⊎ (T b)
@@ -60,12 +60,6 @@ in-order (fin s m e) (fin t n d) f g h =
     (ordered s t (m * up e * down d) (n * up d * down e) (either (below s (m * up e * down d) t (n * up d * down e)) (level s (m * up e * down d) t (n * up d * down e)) h))
 
 -- ---- and the nearest ticks keep it
-den-pos : (x : Float) → 0 < denominator x
-unfolding denominator
-den-pos nan = lit< tt
-den-pos (inf s) = lit< tt
-den-pos (fin s m e) = down-pos e
-
 nearest-keeps : (per : ℕ) (x y : Float) → NotLater x y → nearestTick per x ≤ℤ nearestTick per y
 unfolding nearestTick
 nearest-keeps per x y h =

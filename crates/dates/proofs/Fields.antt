@@ -1,18 +1,22 @@
 -- A finite double's value from the fields of its bit pattern. Assumes nothing.
 use mathlib.Core.Path.{_≡_, refl, sym, ap, _∙_, subst}
-use mathlib.Core.Logic.{inl, inr}
-use Prim.Native.Nat.{ℕ, suc, _+_, _-_, _*_, _/_, _%_, _^_, _<_}
-use native.Mathlib.Nat.{mod-lt, add-comm, le-add-left}
+use mathlib.Core.Logic.{_⊎_, inl, inr}
+use Prim.Native.Nat.{ℕ, zero, suc, _+_, _-_, _*_, _/_, _%_, _^_, _≤_, _<_}
+use native.Mathlib.Nat.{mod-lt, le-add-left, le-of-eq, mul-le-mul-left, pow-suc}
 use native.Mathlib.Omega.{arith}
 use mathlib.Core.Bool.{Bool, true, false, not, cond}
 use lib.Dec.{T, leb, eqb}
 use lib.Pow.{pow-pos, field}
+use lib.IntN.{ℤ, pos, natAbs, _*ℤ_}
 use lib.Bits.{bitAnd, and-mask}
-use lib.Ieee.{Float, nan, inf, fin, binary64, odd, fits, isNan, ofFields, ofBits, toBits}
+use lib.Ieee.{Float, nan, inf, fin, up, down, binary64, odd, fits, isNan, ofFields, ofBits, toBits}
 use lib.Ieee.Bits.{ofBits-toBits}
 use lib.Ieee.Exact.{HasValue, odd-sign}
 use lib.Ieee.Scale.{finite}
+use Rattle.numbers.proofs.Order.{abs-*}
+use Rattle.dates.specs.Doubles.{signed, numerator, denominator}
 use Rattle.dates.specs.Inner.{Apart}
+use Rattle.dates.proofs.Values.{signed-times, signed-size, value-of}
 
 pub no-nan : (x : Float) → T (finite x) → T (not (isNan x))
 unfolding isNan
@@ -65,31 +69,59 @@ module _ (x : Float) (F : T (fits binary64 x)) (fine : T (finite x)) where
   pub low-lt : lowOf b < 2 ^ 52
   low-lt = subst (λ (k : ℕ). k < 2 ^ 52) (sym (and-mask b 52)) (mod-lt b (pow-pos 52))
 
-  pub lowest : fieldOf b ≡ 0 → Apart x (leb (2 ^ 63) b) (lowOf b) 0
-  lowest e = record {
-    value = subst (λ (k : Float). HasValue k (leb (2 ^ 63) b) (lowOf b * 2 ^ 0) (2 ^ 1074)) (sym (is ∙ ap (λ (k : ℕ). ofFields binary64 (leb (2 ^ 63) b) k (lowOf b)) e)) (at-low (leb (2 ^ 63) b) (lowOf b));
-    small = go (lowOf b) low-lt;
-    least = inl refl;
-  }
-    where
-      go : (l : ℕ) → l < 2 ^ 52 → l < 2 ^ 53
-      go l h = omega arith
+  abbrev s : Bool
+  s = leb (2 ^ 63) b
 
-  pub higher : (j : ℕ) → fieldOf b ≡ suc j → Apart x (leb (2 ^ 63) b) (lowOf b + 2 ^ 52) j
+  abbrev digits : ℕ
+  digits = lowOf b + 2 ^ 52
+
+  -- what a value a / c says of the page's fraction
+  size-of : (a c : ℕ) → HasValue x s a c → c * natAbs (numerator x) ≡ denominator x * a
+  size-of a c v =
+      sym (abs-* (pos c) (numerator x)) ∙ ap natAbs (value-of x s a c v) ∙ abs-* (pos (denominator x)) (signed s a) ∙ ap (λ (z : ℕ). denominator x * z) (signed-size s a)
+
+  lowest : fieldOf b ≡ 0 → 2 ^ 1075 * natAbs (numerator x) ≤ denominator x * (2 ^ 0 * digits)
+  lowest e =
+      let q : x ≡ ofFields binary64 s 0 (lowOf b) = is ∙ ap (λ (k : ℕ). ofFields binary64 s k (lowOf b)) e in
+      let v : HasValue x s (lowOf b * 2 ^ 0) (2 ^ 1074) = subst (λ (k : Float). HasValue k s (lowOf b * 2 ^ 0) (2 ^ 1074)) (sym q) (at-low s (lowOf b)) in
+      go (2 ^ 1074) (natAbs (numerator x)) (denominator x) (lowOf b) (size-of (lowOf b * 2 ^ 0) (2 ^ 1074) v) low-lt
+    where
+      go : (c n d l : ℕ) → c * n ≡ d * (l * 1) → l < 4503599627370496 → 2 * c * n ≤ d * (1 * (l + 4503599627370496))
+      go c n d l i h = let k : 2 * l ≤ l + 4503599627370496 = omega arith in omega (arith, mul-le-mul-left d k)
+
+  higher : (j : ℕ) → fieldOf b ≡ suc j → HasValue x s (2 ^ suc j * digits) (2 ^ 1075)
   higher j e =
-      let s = leb (2 ^ 63) b in
       let q : x ≡ ofFields binary64 s (suc j) (lowOf b) = is ∙ ap (λ (k : ℕ). ofFields binary64 s k (lowOf b)) e in
-      record {
-        value = subst (λ (k : Float). HasValue k s ((lowOf b + 2 ^ 52) * 2 ^ j) (2 ^ 1074)) (sym q) (subst (λ (k : ℕ). HasValue (ofFields binary64 s (suc j) (lowOf b)) s (k * 2 ^ j) (2 ^ 1074)) (add-comm (2 ^ 52) (lowOf b)) (at-high s j (lowOf b) (subst (λ (k : Float). T (finite k)) q fine)));
-        small = go (lowOf b) low-lt;
-        least = inr (le-add-left (2 ^ 52) (lowOf b));
-      }
+      twice x ((2 ^ 52 + lowOf b) * 2 ^ j) (2 ^ suc j * digits)
+      (subst (λ (k : Float). HasValue k s ((2 ^ 52 + lowOf b) * 2 ^ j) (2 ^ 1074)) (sym q) (at-high s j (lowOf b) (subst (λ (k : Float). T (finite k)) q fine)))
+      (go (2 ^ j) (2 ^ suc j) (lowOf b) (pow-suc 2 j))
+    where
+      go : (p q l : ℕ) → q ≡ p * 2 → q * (l + 4503599627370496) ≡ 2 * ((4503599627370496 + l) * p)
+      go p q l i = omega (arith, ap (λ (z : ℕ). z * l) i)
+
+      double : (w c a d u : ℕ) → w * u ≡ a * d → c ≡ 2 * a → w * (2 * u) ≡ c * d
+      double w c a d u i k = omega (arith, ap (λ (z : ℕ). z * d) k)
+
+      twice : (y : Float) (a c : ℕ) → HasValue y s a (2 ^ 1074) → c ≡ 2 * a → HasValue y s c (2 ^ 1075)
+      twice nan a c v i = v
+      twice (inf t) a c v i = v
+      twice (fin t m e) a c v i = (v .0, double (m * up e) c a (down e) (2 ^ 1074) (v .1) i)
+
+  pub apart : Apart x (signed s digits) (fieldOf b)
+  apart = record {
+    value = given (fieldOf b) refl;
+    under = rw (signed-size s digits) (under-it (fieldOf b) refl);
+    least = rw (signed-size s digits) (le-add-left (2 ^ 52) (lowOf b));
+    small = rw (signed-size s digits) (go (lowOf b) low-lt);
+  }
     where
       go : (l : ℕ) → l < 2 ^ 52 → l + 2 ^ 52 < 2 ^ 53
       go l h = omega arith
 
-  pub field-less : (fieldOf b ≡ 0 → ⊥) → fieldOf b ≡ suc (fieldOf b - 1)
-  field-less n = go (fieldOf b) n
-    where
-      go : (f : ℕ) → (f ≡ 0 → ⊥) → f ≡ suc (f - 1)
-      go f n = omega arith
+      given : (f : ℕ) → fieldOf b ≡ f → (f ≡ 0) ⊎ (pos (2 ^ 1075) *ℤ numerator x ≡ pos (denominator x) *ℤ (pos (2 ^ f) *ℤ signed s digits))
+      given zero e = inl refl
+      given (suc j) e = inr (value-of x s (2 ^ suc j * digits) (2 ^ 1075) (higher j e) ∙ ap (λ (z : ℤ). pos (denominator x) *ℤ z) (sym (signed-times s (2 ^ suc j) digits)))
+
+      under-it : (f : ℕ) → fieldOf b ≡ f → 2 ^ 1075 * natAbs (numerator x) ≤ denominator x * (2 ^ f * digits)
+      under-it zero e = lowest e
+      under-it (suc j) e = le-of-eq (size-of (2 ^ suc j * digits) (2 ^ 1075) (higher j e))

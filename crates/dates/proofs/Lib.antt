@@ -3,13 +3,12 @@
 --   the tick (last-day); the second lies in [0, 1) (second-in-day).
 --   `Earlier`: of two readings of seconds the earlier is never the later tick (earlier); the same over exact values (ticks-in-order).
 --   `Known`: 01's known values of dates that are not marked P (known-dates), and the edges of its rules (edges).
--- The rest serves the functions' proofs: what comparisons and bits of a double say (`Comparisons`, `Fields`), its value in ticks (`Halves`, `Values`), the
--- shifts and pieces of a product and the spans of the code (`Pieces`, `Spans`), the day of a tick (`Days`) and one rounded division (`Division`).
+-- The rest serves the functions' proofs: what comparisons and bits of a double say (`Comparisons`, `Fields`), its value in ticks (`Values`), the shifts and
+-- pieces of a product and the spans of the code (`Pieces`, `Spans`), the day of a tick (`Days`) and one rounded division (`Division`).
 pub mod Comparisons
-pub mod Fields
 pub mod Pieces
-pub mod Halves
 pub mod Values
+pub mod Fields
 pub mod Spans
 pub mod Days
 pub mod Division

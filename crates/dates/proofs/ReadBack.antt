@@ -8,7 +8,7 @@ use native.Mathlib.Omega.{arith}
 use lib.Arith.{le→nltb}
 use lib.Dec.{ltb, lit≤, lit<}
 use lib.Pow.{pow-pos}
-use lib.IntN.{ℤ, pos, natAbs, _+ℤ_, _-ℤ_, _*ℤ_}
+use lib.IntN.{ℤ, pos, natAbs, _+ℤ_, _-ℤ_, _*ℤ_, *ℤ-comm}
 use lib.Signed.{_≤ℤ_, _<ℤ_}
 use lib.Ieee.{Float, nan, inf, fin, up, down, binary64}
 use lib.Ieee.Bits.{is-false}
@@ -30,8 +30,7 @@ use Rattle.dates.specs.Answers.{Accepts, numberOf, tickOf, writtenNumber
 use Rattle.dates.specs.Inner.{Since}
 use Rattle.dates.proofs.Days.{counted, days-few, first-is, second-is}
 use Rattle.dates.proofs.Division.{part-under, part-value, part-ticks, half-value}
-use Rattle.dates.proofs.Values.{ticks-of}
-use Rattle.dates.proofs.Halves.{sized}
+use Rattle.dates.proofs.Values.{sized, ticks-of, value-of}
 
 -- ---- what a value says
 finite-of : (x : Float) (s : Bool) (a c : ℕ) → HasValue x s a c → finite x ≡ true
@@ -46,14 +45,6 @@ not-beyond (inf t) s a c most C v h = absurd v
 not-beyond (fin t m e) s a c most C v h =
     is-false (ltb (most * down e) (m * up e)) (le→nltb (most * down e) (m * up e)
     (le-of-mul-le-mul-right (le-trans (le-of-eq (v .1)) (le-trans (mul-le-mul-right (down e) h) (le-of-eq (mul-right-comm most c (down e))))) C))
-
--- a value a / c, as the page's fraction
-value-is : (x : Float) (a c : ℕ) → HasValue x false a c → pos c *ℤ numerator x ≡ pos a *ℤ pos (denominator x)
-unfolding numerator denominator
-value-is nan a c v = absurd v
-value-is (inf t) a c v = absurd v
-value-is (fin true m e) a c v = absurd (true≢false (v .0))
-value-is (fin false m e) a c v = ap pos (mul-comm c (m * up e) ∙ v .1)
 
 -- below one
 below-one : (x : Float) (a c : ℕ) → 0 < c → HasValue x false a c → a < c → (pos 0 ≤ℤ numerator x) × (numerator x <ℤ pos (denominator x))
@@ -98,8 +89,8 @@ module _ (tick : ℤ) (v : isValid tick ≡ true) where
 
   first-ticks : nearestTick dayTicks (firstPart tick) ≡ pos 43200000000000 *ℤ halves tick
   first-ticks =
-      ticks-of (firstPart tick) false n 2 dayTicks (lit< tt) first-value
-      ∙ sized false (n * dayTicks) 2 (43200000000000 * n) (lit< tt) (go n)
+      ticks-of (firstPart tick) n 2 dayTicks (lit< tt) first-value
+      ∙ sized (n * dayTicks) 2 (43200000000000 * n) (lit< tt) (go n)
       ∙ ap (λ (z : ℤ). pos 43200000000000 *ℤ z) n-is
     where
       go : (n : ℕ) → (2 * (2 * (43200000000000 * n)) ≤ 2 * (n * 86400000000000) + 2) × (2 * (n * 86400000000000) + 2 < 2 * (2 * (43200000000000 * n)) + 2 * 2)
@@ -146,7 +137,7 @@ module _ (tick : ℤ) (v : isValid tick ≡ true) where
 
   -- 'the first part is .. exact': its value is the day's n + 1/2
   pub first-exact : (finite (firstPart tick) ≡ true) × (pos 2 *ℤ numerator (firstPart tick) ≡ (pos 2 *ℤ dayOf tick +ℤ pos 1) *ℤ pos (denominator (firstPart tick)))
-  first-exact = (first-finite, value-is (firstPart tick) n 2 first-value ∙ ap (λ (z : ℤ). z *ℤ pos (denominator (firstPart tick))) n-is)
+  first-exact = (first-finite, value-of (firstPart tick) false n 2 first-value ∙ *ℤ-comm (pos (denominator (firstPart tick))) (pos n) ∙ ap (λ (z : ℤ). z *ℤ pos (denominator (firstPart tick))) n-is)
 
   -- the second part lies in [0, 1)
   pub second-in-day : (finite (secondPart tick) ≡ true) × ((pos 0 ≤ℤ numerator (secondPart tick)) × (numerator (secondPart tick) <ℤ pos (denominator (secondPart tick))))

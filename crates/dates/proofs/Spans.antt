@@ -1,8 +1,8 @@
 -- What a span is worth: a rounded part's, a sum's, and whether that is in the range. Assumes nothing.
 use mathlib.Core.Path.{_≡_, refl, sym, ap, _∙_}
 use mathlib.Core.Bool.{Bool, true, false, not}
-use Prim.Native.Nat.{ℕ, _+_, _*_, _≤_, _<_}
-use native.Mathlib.Nat.{le-trans}
+use Prim.Native.Nat.{ℕ, zero, suc, _+_, _*_, _≤_, _<_}
+use native.Mathlib.Nat.{le-trans, zero-mul, suc-mul, mul-le-mul-left}
 use native.Mathlib.Omega.{arith}
 use lib.IntN.{ℤ, pos, negsuc, negℤ, natAbs, _+ℤ_, _*ℤ_}
 use lib.Signed.{_≤ℤ_, _<ℤ_}
@@ -13,34 +13,20 @@ use Rattle.scales.specs.Tick.{furthest, isValid}
 use Rattle.scales.proofs.Range.{valid-size}
 use Rattle.dates.specs.declared.reading.Read.the-variants as R
 use Rattle.dates.specs.declared.span.Span.{Span}
-use Rattle.dates.specs.Doubles.{signed}
 use Rattle.dates.specs.Ticks.{dayTicks, j2000, nearestTick, origin, secondTicks, tickOfDate, tickOfSeconds}
 use Rattle.dates.specs.Readings.{inRange, refusedWith, refusing}
-use Rattle.dates.specs.Inner.{Counted, Rounded, Sized, Spanned, Within, modest, worth}
-use Rattle.dates.proofs.Halves.{signed-times, signed-plus, signed-size}
+use Rattle.dates.specs.Inner.{Reach, Rounded, Spanned, Within, modest, worth}
 
--- whole units of `each` seconds and ticks, of one sign
-pub rounded : (each : ℕ) (x : Float) (s : Bool) (units ticks seconds : ℕ) (span : Span) → Counted (secondTicks * each) x s units ticks → seconds ≡ units * each → Sized seconds ticks
-    → Spanned span (signed s seconds) (signed s ticks) → Rounded (secondTicks * each) x span
-rounded each x s units ticks seconds span c k z e = record {
-  is =
-      c .is
-      ∙ ap (λ (n : ℕ). signed s (n + ticks)) (turn units each ∙ ap (λ (n : ℕ). secondTicks * n) (sym k))
-      ∙ sym (signed-plus s (secondTicks * seconds) ticks)
-      ∙ ap (λ (w : ℤ). w +ℤ signed s ticks) (sym (signed-times s secondTicks seconds))
-      ∙ rw (e .secondsAre, e .ticksAre);
-  small = record { seconds = rw (e .secondsAre, signed-size s seconds) (z .fewSeconds); ticks = rw (e .ticksAre, signed-size s ticks) (z .fewTicks) };
-}
-  where
-    turn : (u n : ℕ) → u * (1000000000 * n) ≡ 1000000000 * (u * n)
-    turn u n = omega arith
+-- ---- the range: with p·m ticks in 100,000 days, beyond m units of p ticks either way a span is outside, and up to there it fits 64 bits
+module _ (p m : ℕ) (w : p * m ≡ 8640000000000000000) where
+  far-above : (u t : ℤ) → pos m <ℤ u → natAbs t ≤ 10000000000000000 → furthest < natAbs (pos p *ℤ u +ℤ t)
+  far-above = rep₂ _ (λ a b c d. simp sizes (λ h k. omega (arith, mul-le-mul-left p h)))
 
--- ---- the range: beyond 9·10^9 s either way a span is outside, and up to there it fits 64 bits
-far-above : (s t : ℤ) → pos 9000000000 <ℤ s → natAbs t ≤ 10000000000000000 → furthest < natAbs (pos secondTicks *ℤ s +ℤ t)
-far-above = rep₂ _ (λ a b c d. simp sizes (omega arith))
+  far-below : (u t : ℤ) → u <ℤ negℤ (pos m) → natAbs t ≤ 10000000000000000 → furthest < natAbs (pos p *ℤ u +ℤ t)
+  far-below = rep₂ _ (λ a b c d. simp sizes (λ h k. omega (arith, mul-le-mul-left p h)))
 
-far-below : (s t : ℤ) → s <ℤ negsuc 8999999999 → natAbs t ≤ 10000000000000000 → furthest < natAbs (pos secondTicks *ℤ s +ℤ t)
-far-below = rep₂ _ (λ a b c d. simp sizes (omega arith))
+  near : (u : ℤ) → u ≤ℤ pos m → negℤ (pos m) ≤ℤ u → natAbs (u *ℤ pos p) ≤ 8640000000000000000
+  near = rep _ (λ a b. simp lin (λ h k. omega (arith, mul-le-mul-left p h, mul-le-mul-left p k)))
 
 outside : (z : ℤ) → furthest < natAbs z → inRange z ≡ refusedWith 4 0
 unfolding inRange
@@ -50,53 +36,59 @@ outside z h = go (isValid z) (valid-size z)
     go true f = let l = f refl in let no : ⊥ = omega arith in absurd no
     go false f = refl
 
-pub too-late : (span : Span) → Within modest span → pos 9000000000 <ℤ span .seconds → inRange (worth span) ≡ refusedWith 4 0
-too-late span m h = outside (worth span) (far-above (span .seconds) (span .ticks) h (m .ticks))
+module _ (per most : ℤ) (reach : Reach per most) where
+  pub too-late : (span : Span) → Within modest span → most <ℤ span .units → inRange (worth per span) ≡ refusedWith 4 0
+  too-late span m h =
+      rw (reach .perIs)
+      (outside (worth (pos (natAbs per)) span) (far-above (natAbs per) (natAbs most) (reach .days) (span .units) (span .ticks) (rw (reach .mostIs) at h) (m .ticks)))
 
-pub too-early : (span : Span) → Within modest span → span .seconds <ℤ negsuc 8999999999 → inRange (worth span) ≡ refusedWith 4 0
-too-early span m h = outside (worth span) (far-below (span .seconds) (span .ticks) h (m .ticks))
+  pub too-early : (span : Span) → Within modest span → span .units <ℤ negℤ most → inRange (worth per span) ≡ refusedWith 4 0
+  too-early span m h =
+      rw (reach .perIs)
+      (outside (worth (pos (natAbs per)) span) (far-below (natAbs per) (natAbs most) (reach .days) (span .units) (span .ticks) (rw (reach .mostIs) at h) (m .ticks)))
 
-pub seconds-size : (s : ℤ) → s ≤ℤ pos 9000000000 → negsuc 8999999999 ≤ℤ s → natAbs (s *ℤ pos 1000000000) ≤ 9000000000000000000
-seconds-size = rep _ (λ a b. simp lin (omega arith))
+  pub most-size : natAbs most ≤ 8640000000000000000
+  most-size = go (natAbs per) (natAbs most) (reach .days)
+    where
+      go : (p m : ℕ) → p * m ≡ 8640000000000000000 → m ≤ 8640000000000000000
+      go zero m w = let z : ⊥ = omega (arith, zero-mul m) in absurd z
+      go (suc p) m w = omega (arith, suc-mul p m)
 
-pub worth-size : (s t : ℤ) → natAbs (s *ℤ pos 1000000000) ≤ 9000000000000000000 → natAbs t ≤ 10000000000000000 → natAbs (s *ℤ pos 1000000000 +ℤ t) ≤ 9010000000000000000
-worth-size = rep₂ _ (λ a b c d. simp lin (omega arith))
-
-pub worth-is : (s t : ℤ) → s *ℤ pos 1000000000 +ℤ t ≡ pos secondTicks *ℤ s +ℤ t
-worth-is = rep₂ _ (λ a b c d. simp lin (omega arith))
+  pub units-size : (u : ℤ) → u ≤ℤ most → negℤ most ≤ℤ u → natAbs (u *ℤ per) ≤ 8640000000000000000
+  units-size u h k = rw (reach .perIs) (near (natAbs per) (natAbs most) (reach .days) u (rw (reach .mostIs) at h) (rw (reach .mostIs) at k))
 
 -- ---- sums
--- the size of a sum, by the sizes of the two: n seconds and ticks at most, and m
-pub sum-sized : (n m : ℕ) (a b sum : Span) → Within n a → Within m b → Spanned sum (a .seconds +ℤ b .seconds) (a .ticks +ℤ b .ticks) → Within (n + m) sum
+-- the size of a sum, by the sizes of the two: n units and ticks at most, and m
+pub sum-sized : (n m : ℕ) (a b sum : Span) → Within n a → Within m b → Spanned sum (a .units +ℤ b .units) (a .ticks +ℤ b .ticks) → Within (n + m) sum
 sum-sized n m a b sum p q e = record {
-  seconds = rw (e .secondsAre) (size-+ (a .seconds) (b .seconds) (p .seconds) (q .seconds));
+  units = rw (e .unitsAre) (size-+ (a .units) (b .units) (p .units) (q .units));
   ticks = rw (e .ticksAre) (size-+ (a .ticks) (b .ticks) (p .ticks) (q .ticks));
 }
 
 pub looser : (n m : ℕ) (span : Span) → n ≤ m → Within n span → Within m span
-looser n m span h w = record { seconds = le-trans (w .seconds) h; ticks = le-trans (w .ticks) h }
+looser n m span h w = record { units = le-trans (w .units) h; ticks = le-trans (w .ticks) h }
 
-sum-worth : (s t u v : ℤ) → pos secondTicks *ℤ (s +ℤ u) +ℤ (t +ℤ v) ≡ pos secondTicks *ℤ s +ℤ t +ℤ (pos secondTicks *ℤ u +ℤ v)
-sum-worth = rep₄ _ (λ a b c d e f g h. simp lin (omega arith))
-
-pub worth-plus : (a b sum : Span) → Spanned sum (a .seconds +ℤ b .seconds) (a .ticks +ℤ b .ticks) → worth sum ≡ worth a +ℤ worth b
-worth-plus a b sum e = rw (e .secondsAre, e .ticksAre) (sum-worth (a .seconds) (a .ticks) (b .seconds) (b .ticks))
+pub worth-plus : (per : ℕ) (a b sum : Span) → Spanned sum (a .units +ℤ b .units) (a .ticks +ℤ b .ticks) → worth (pos per) sum ≡ worth (pos per) a +ℤ worth (pos per) b
+worth-plus per a b sum e = rw (e .unitsAre, e .ticksAre) (go (a .units) (a .ticks) (b .units) (b .ticks))
+  where
+    go : (s t u v : ℤ) → pos per *ℤ (s +ℤ u) +ℤ (t +ℤ v) ≡ pos per *ℤ s +ℤ t +ℤ (pos per *ℤ u +ℤ v)
+    go = rep₄ _ (λ a b c d e f g h. simp lin (omega arith))
 
 -- J2000 past the origin, and the origin taken off
 abbrev pub j2000Span : Span
-j2000Span = record { seconds = pos 725803167; ticks = pos 816000000 }
+j2000Span = record { units = pos 725803167; ticks = pos 816000000 }
 
 abbrev pub originSpan : Span
-originSpan = record { seconds = negsuc 211087684831; ticks = negsuc 183999999 }
+originSpan = record { units = negsuc 2443143; ticks = negsuc 43232183999999 }
 
 -- ---- the two kinds of doubles, from the leaves' spans to their ticks
-pub seconds-worth : (x : Float) (a sum : Span) → Rounded secondTicks x a → Spanned sum (a .seconds +ℤ j2000Span .seconds) (a .ticks +ℤ j2000Span .ticks) → worth sum ≡ tickOfSeconds x
+pub seconds-worth : (x : Float) (a sum : Span) → Rounded secondTicks x a → Spanned sum (a .units +ℤ j2000Span .units) (a .ticks +ℤ j2000Span .ticks) → worth (pos secondTicks) sum ≡ tickOfSeconds x
 unfolding tickOfSeconds
-seconds-worth x a sum r e = worth-plus a j2000Span sum e ∙ ap (λ (z : ℤ). z +ℤ j2000) (sym (r .is))
+seconds-worth x a sum r e = worth-plus secondTicks a j2000Span sum e ∙ ap (λ (z : ℤ). z +ℤ j2000) (sym (r .is))
 
-pub date-worth : (x y : Float) (a b both sum : Span) → Rounded dayTicks x a → Rounded dayTicks y b → Spanned both (a .seconds +ℤ b .seconds) (a .ticks +ℤ b .ticks)
-    → Spanned sum (both .seconds +ℤ originSpan .seconds) (both .ticks +ℤ originSpan .ticks) → worth sum ≡ tickOfDate x y
+pub date-worth : (x y : Float) (a b both sum : Span) → Rounded dayTicks x a → Rounded dayTicks y b → Spanned both (a .units +ℤ b .units) (a .ticks +ℤ b .ticks)
+    → Spanned sum (both .units +ℤ originSpan .units) (both .ticks +ℤ originSpan .ticks) → worth (pos dayTicks) sum ≡ tickOfDate x y
 unfolding tickOfDate
 date-worth x y a b both sum p q e f =
-    let two : worth both ≡ nearestTick dayTicks x +ℤ nearestTick dayTicks y = worth-plus a b both e ∙ rw (p .is, q .is) in
-    worth-plus both originSpan sum f ∙ ap (λ (z : ℤ). z +ℤ negℤ (pos origin)) two
+    let two : worth (pos dayTicks) both ≡ nearestTick dayTicks x +ℤ nearestTick dayTicks y = worth-plus dayTicks a b both e ∙ rw (p .is, q .is) in
+    worth-plus dayTicks both originSpan sum f ∙ ap (λ (z : ℤ). z +ℤ negℤ (pos origin)) two

@@ -2,156 +2,256 @@
 use mathlib.Core.Path.{_≡_, refl, sym, ap, _∙_, subst}
 use mathlib.Core.Logic.{inl, inr}
 use mathlib.Core.Bool.{Bool, true, false, not, _&&_, false≢true}
-use Prim.Native.Nat.{ℕ, _+_, _-_, _*_, _/_, _%_, _^_, _≤_, _<_, zero-le}
-use native.Mathlib.Nat.{add-comm, le-of-lt, lt-of-lt-of-le, div-eq-of-lt, mod-eq-of-lt, mul-le-mul, mod-lt, le-trans, le-of-eq, lt-of-le-of-lt, lt-irrefl, lt-of-not-le, mul-comm, mul-assoc, mul-left-comm, mul-right-comm, mul-le-mul-right, le-of-mul-le-mul-right, div-add-mod', div-le-of-le-mul}
+use Prim.Native.Nat.{ℕ, _+_, _-_, _*_, _^_, _≤_, _<_}
+use native.Mathlib.Nat.{le-of-lt, le-trans, le-of-eq, lt-of-le-of-lt, lt-irrefl, lt-of-not-le}
+use native.Mathlib.Nat.{one-mul, mul-comm, mul-assoc, mul-left-comm, mul-le-mul, mul-le-mul-left, mul-le-mul-right, le-of-mul-le-mul-left}
 use native.Mathlib.Omega.{arith}
 use lib.Arith.{le→nltb}
 use lib.Dec.{T, nltb→le, lit≤, lit<}
 use lib.Pow.{pow-add, pow-pos, pow-mono}
-use lib.IntN.{ℤ, pos, _+ℤ_, _*ℤ_}
+use lib.IntN.{ℤ, pos, natAbs, _+ℤ_, _-ℤ_, _*ℤ_, +ℤ-comm}
 use lib.Ieee.{Float, nan, inf, fin, up, down}
 use lib.Ieee.Fits.{down-pos}
 use lib.Ieee.Exact.{HasValue}
 use lib.Ieee.Scale.{finite}
-use Rattle.numbers.specs.Rounding.{nearest}
-use Rattle.numbers.proofs.Rounding.{nearest-plus, nearest-reduced}
+use Rattle.numbers.specs.Rounding.{floorDiv, nearest}
+use Rattle.numbers.proofs.Differences.{rep, rep₂, lin}
+use Rattle.numbers.proofs.Ring.{*-left-comm, one-*}
+use Rattle.numbers.proofs.Order.{abs-neg, abs-*, size-*}
+use Rattle.numbers.proofs.Rounding.{floor-rest, floor-small, nearest-is, nearest-none, nearest-plus, nearest-reduced, nearest-same, nearest-small}
+use Rattle.dates.specs.declared.span.Span.{Span}
 use Rattle.dates.specs.Doubles.{signed, numerator, denominator, beyond}
 use Rattle.dates.specs.Ticks.{nearestTick}
-use Rattle.dates.specs.Inner.{Apart, Counted, Factored, PartPlaces, Passed, passing}
-use Rattle.dates.proofs.Halves.{signed-times, signed-plus, at-most, nothing}
-use Rattle.dates.proofs.Pieces.{last-digits}
+use Rattle.dates.specs.Inner.{Apart, Factored, Passed, Rounded, passing}
 
--- ---- equal fractions round alike
-same-value : (s : Bool) (a b c d : ℕ) → 0 < b → 0 < d → a * d ≡ c * b → nearest (signed s a) b ≡ nearest (signed s c) d
-same-value s a b c d B D e =
-    sym (nearest-reduced (signed s a) b d B D)
-    ∙ ap (λ (z : ℤ). nearest z (d * b)) (signed-times s d a ∙ ap (signed s) (mul-comm d a ∙ e ∙ mul-comm c b) ∙ sym (signed-times s b c))
-    ∙ ap (nearest (pos b *ℤ signed s c)) (mul-comm d b)
-    ∙ nearest-reduced (signed s c) d b D B
+-- ---- signs
+pub signed-times : (s : Bool) (k n : ℕ) → pos k *ℤ signed s n ≡ signed s (k * n)
+signed-times false k n = refl
+signed-times true k n = simp lin (omega arith)
 
--- the ticks of ±a / c units
-pub ticks-of : (x : Float) (s : Bool) (a c n : ℕ) → 0 < c → HasValue x s a c → nearestTick n x ≡ nearest (signed s (a * n)) c
-unfolding nearestTick numerator denominator
-ticks-of nan s a c n C v = absurd v
-ticks-of (inf t) s a c n C v = absurd v
-ticks-of (fin t m e) s a c n C v =
-    ap (λ (z : ℤ). nearest z (down e)) (signed-times t n (m * up e) ∙ ap (λ (b : Bool). signed b (n * (m * up e))) (v .0))
-    ∙ same-value s (n * (m * up e)) (down e) (a * n) c (down-pos e) C (mul-assoc n (m * up e) c ∙ ap (λ (z : ℕ). n * z) (v .1) ∙ turn n a (down e))
-  where
-    turn : (n a d : ℕ) → n * (a * d) ≡ a * n * d
-    turn n a d = simp (mul-assoc, mul-comm, mul-left-comm)
+pub signed-size : (s : Bool) (n : ℕ) → natAbs (signed s n) ≡ n
+signed-size false n = refl
+signed-size true n = abs-neg (pos n)
 
--- ---- an exponent's reach
--- the range in units
-in-units : (x : Float) (s : Bool) (a c b : ℕ) → HasValue x s a c → Passed b x → a ≤ b * c
-unfolding beyond
-in-units nan s a c b v h = absurd v
-in-units (inf t) s a c b v h = absurd v
-in-units (fin t m e) s a c b v h =
-    le-of-mul-le-mul-right (le-trans (le-of-eq (sym (v .1))) (le-trans (mul-le-mul-right c (nltb→le (b * down e) (m * up e) (h .within))) (le-of-eq (mul-right-comm b (down e) c)))) (down-pos e)
+-- ---- a value, as the page's fraction
+pub den-pos : (x : Float) → 0 < denominator x
+unfolding denominator
+den-pos nan = lit< tt
+den-pos (inf s) = lit< tt
+den-pos (fin s m e) = down-pos e
 
-pub reach : (x : Float) (s : Bool) (digits e : ℕ) → Apart x s digits e → Passed 10000000000 x → e ≤ 1055
-reach x s digits e t h = elim (t .least) [
-  | inl z ↦ le-trans (le-of-eq z) (lit≤ tt)
-  | inr big ↦ go e (lt-of-not-le (λ (g : 1108 ≤ 52 + e). lt-irrefl (2 ^ 1108) (lt-of-le-of-lt (le-trans (pow-mono g) (le-trans (le-of-eq (pow-add 2 52 e)) (mul-le-mul-right (2 ^ e) big))) (lt-of-le-of-lt (in-units x s (digits * 2 ^ e) (2 ^ 1074) 10000000000 (t .value) h) (lit< tt)))))
-]
-  where
-    go : (e : ℕ) → 52 + e < 1108 → e ≤ 1055
-    go e h = omega arith
+pub value-of : (x : Float) (s : Bool) (a c : ℕ) → HasValue x s a c → pos c *ℤ numerator x ≡ pos (denominator x) *ℤ signed s a
+unfolding numerator denominator
+value-of nan s a c v = absurd v
+value-of (inf t) s a c v = absurd v
+value-of (fin t m e) s a c v =
+    signed-times t c (m * up e)
+    ∙ ap (λ (b : Bool). signed b (c * (m * up e))) (v .0)
+    ∙ ap (signed s) (mul-comm c (m * up e) ∙ v .1 ∙ mul-comm a (down e))
+    ∙ sym (signed-times s (down e) a)
 
--- ---- a double taken apart, in ticks: with P = 2^(1074 − e), it is digits / P
-module _ (x : Float) (s : Bool) (digits e : ℕ) (t : Apart x s digits e) (h : e ≤ 1055) where
-  abbrev P : ℕ
-  P = 2 ^ (1074 - e)
+-- the ticks of z / c units
+ticks-at : (x : Float) (z : ℤ) (c n : ℕ) → 0 < c → pos c *ℤ numerator x ≡ pos (denominator x) *ℤ z → nearestTick n x ≡ nearest (pos n *ℤ z) c
+unfolding nearestTick
+ticks-at x z c n C v =
+    nearest-same (pos n *ℤ numerator x) (pos n *ℤ z) (denominator x) c (den-pos x) C
+    (*-left-comm (pos c) (pos n) (numerator x) ∙ ap (λ (w : ℤ). pos n *ℤ w) v ∙ *-left-comm (pos n) (pos (denominator x)) z)
 
-  whole : 2 ^ e * P ≡ 2 ^ 1074
-  whole = sym (pow-add 2 e (1074 - e)) ∙ ap (λ (z : ℕ). 2 ^ z) (go e h)
+pub ticks-of : (x : Float) (a c n : ℕ) → 0 < c → HasValue x false a c → nearestTick n x ≡ nearest (pos (a * n)) c
+ticks-of x a c n C v = ticks-at x (pos a) c n C (value-of x false a c v) ∙ ap (λ (z : ℕ). nearest (pos z) c) (mul-comm n a)
+
+-- r is nearest to x / d
+pub sized : (x d r : ℕ) → 0 < d → (2 * (d * r) ≤ 2 * x + d) × (2 * x + d < 2 * (d * r) + 2 * d) → nearest (pos x) d ≡ pos r
+sized x d r h b = nearest-is (pos x) (pos r) d h (record { under = simp lin (omega (arith, b)); above = simp lin (omega (arith, b)) })
+
+-- ---- a double within a range
+in-range : (most : ℕ) (x : Float) → Passed most x → natAbs (numerator x) ≤ most * denominator x
+unfolding numerator denominator beyond
+in-range most nan h = absurd (h .finitely)
+in-range most (inf t) h = absurd (h .finitely)
+in-range most (fin t m e) h = rw (signed-size t (m * up e)) (nltb→le (most * down e) (m * up e) (h .within))
+
+-- ---- a double taken apart, of exponent e and so of 1075 − e places
+module _ (x : Float) (digits : ℤ) (e : ℕ) (t : Apart x digits e) where
+  abbrev N : ℕ
+  N = natAbs (numerator x)
+
+  abbrev D : ℕ
+  D = denominator x
+
+  abbrev m : ℕ
+  m = natAbs digits
+
+  abbrev Value : Type 0
+  Value = pos (2 ^ 1075) *ℤ numerator x ≡ pos D *ℤ (pos (2 ^ e) *ℤ digits)
+
+  size : Value → 2 ^ 1075 * N ≡ D * (2 ^ e * m)
+  size v = sym (abs-* (pos (2 ^ 1075)) (numerator x)) ∙ ap natAbs v ∙ abs-* (pos D) (pos (2 ^ e) *ℤ digits) ∙ ap (λ (z : ℕ). D * z) (abs-* (pos (2 ^ e)) digits)
+
+  -- the range, in the digits' units
+  in-units : (most : ℕ) → Passed most x → Value → 2 ^ e * m ≤ 2 ^ 1075 * most
+  in-units most p v =
+      le-of-mul-le-mul-left
+      (le-trans (le-of-eq (sym (size v))) (le-trans (mul-le-mul-left (2 ^ 1075) (in-range most x p)) (le-of-eq (turn (2 ^ 1075) most D))))
+      (den-pos x)
     where
-      go : (e : ℕ) → e ≤ 1055 → e + (1074 - e) ≡ 1074
+      turn : (c n d : ℕ) → c * (n * d) ≡ d * (c * n)
+      turn c n d = simp (mul-comm, mul-left-comm)
+
+  pub reach : Passed 10000000000 x → e ≤ 1056
+  reach p = elim (t .value) [
+    | inl z ↦ le-trans (le-of-eq z) (lit≤ tt)
+    | inr v ↦
+        let least : 2 ^ (e + 52) ≤ 2 ^ e * m = le-trans (le-of-eq (pow-add 2 e 52)) (mul-le-mul-left (2 ^ e) (t .least)) in
+        let most : 2 ^ e * m < 2 ^ 1109 = lt-of-le-of-lt (in-units 10000000000 p v) (lit< tt) in
+        go e (lt-of-not-le (λ (g : 1109 ≤ e + 52). lt-irrefl (2 ^ 1109) (lt-of-le-of-lt (le-trans (pow-mono g) least) most)))
+  ]
+    where
+      go : (e : ℕ) → e + 52 < 1109 → e ≤ 1056
       go e h = omega arith
 
-  all : (n : ℕ) → nearestTick n x ≡ nearest (signed s (digits * n)) P
-  all n =
-      ticks-of x s (digits * 2 ^ e) (2 ^ 1074) n (pow-pos 1074) (t .value)
-      ∙ same-value s (digits * 2 ^ e * n) (2 ^ 1074) (digits * n) P (pow-pos 1074) (pow-pos (1074 - e)) (turn digits n (2 ^ e) P ∙ ap (λ (z : ℕ). digits * n * z) whole)
-    where
-      turn : (d n u p : ℕ) → d * u * n * p ≡ d * n * (u * p)
-      turn d n u p = simp (mul-assoc, mul-comm, mul-left-comm)
+  module _ (h : e ≤ 1056) where
+    abbrev P : ℕ
+    P = 2 ^ (1075 - e)
 
-  -- whole units come off
-  split : (n u f r : ℕ) → nearest (signed s (f * n)) P ≡ signed s r → nearest (signed s ((u * P + f) * n)) P ≡ signed s (u * n + r)
-  split n u f r i =
-      ap (λ (z : ℤ). nearest z P) (ap (signed s) (turn u f n P) ∙ sym (signed-plus s (f * n) (P * (u * n))) ∙ ap (λ (z : ℤ). signed s (f * n) +ℤ z) (sym (signed-times s P (u * n))))
-      ∙ nearest-plus (signed s (f * n)) (signed s (u * n)) P (pow-pos (1074 - e))
-      ∙ ap (λ (z : ℤ). z +ℤ signed s (u * n)) i
-      ∙ signed-plus s r (u * n)
-      ∙ ap (signed s) (add-comm r (u * n))
-    where
-      turn : (u f n p : ℕ) → (u * p + f) * n ≡ f * n + p * (u * n)
-      turn u f n p = omega arith
-
-  few : Passed 10000000000 x → digits / P ≤ 10000000000
-  few p = div-le-of-le-mul P (le-of-mul-le-mul-right (le-trans (in-units x s (digits * 2 ^ e) (2 ^ 1074) 10000000000 (t .value) p) (le-of-eq (ap (λ (z : ℕ). 10000000000 * z) (sym whole) ∙ turn (2 ^ e) P))) (pow-pos e))
-    where
-      turn : (u p : ℕ) → 10000000000 * (u * p) ≡ p * 10000000000 * u
-      turn u p = omega arith
-
-  with-units : (n r : ℕ) → Passed 10000000000 x → nearest (signed s (digits % P * n)) P ≡ signed s r → Counted n x s (digits / P) r
-  with-units n r p i = record {
-    is = all n ∙ ap (λ (z : ℕ). nearest (signed s (z * n)) P) (sym (div-add-mod' digits P)) ∙ split n (digits / P) (digits % P) r i;
-    few = few p;
-    part = at-most s (digits % P * n) P r n (pow-pos (1074 - e)) (mul-le-mul-right n (le-of-lt (mod-lt digits (pow-pos (1074 - e))))) i;
-  }
-
-  -- the part of a unit by its first 64 places, and those past them
-  module _ (part : ℕ) (q : PartPlaces (1074 - e) part) where
-    same-digits : (digits / 2 ^ part ≡ digits / P) × (digits % 2 ^ part ≡ digits % P)
-    same-digits = elim (q .all) [
-      | inl z ↦ rw z (refl, refl)
-      | inr z ↦
-          let l : digits < 2 ^ part = rw z (lt-of-lt-of-le (t .small) (lit≤ tt)) in
-          let g : digits < P = lt-of-lt-of-le l (pow-mono (q .among)) in
-          (div-eq-of-lt l ∙ sym (div-eq-of-lt g), mod-eq-of-lt l ∙ sym (mod-eq-of-lt g))
-    ]
-
-    pub with-part : (odd twos r : ℕ) → twos ≤ 16 → Passed 10000000000 x
-        → nearest (signed s (digits * 2 ^ (64 - part) % 18446744073709551616 * odd)) (2 ^ (32 + (32 + (1074 - e) - part - twos))) ≡ signed s r
-        → Counted (odd * 2 ^ twos) x s (digits / 2 ^ part) r
-    with-part odd twos r l p i =
-        let d = 2 ^ (32 + (32 + (1074 - e) - part - twos)) in
-        let f = digits % P * 2 ^ (64 - part) in
-        let kept : digits * 2 ^ (64 - part) % 18446744073709551616 ≡ f = last-digits digits part (le-trans (q .few) (lit≤ tt)) ∙ ap (λ (z : ℕ). z * 2 ^ (64 - part)) (same-digits .1) in
-        rw (same-digits .0)
-        (with-units (odd * 2 ^ twos) r p
-        (same-value s (digits % P * (odd * 2 ^ twos)) P (f * odd) d (pow-pos (1074 - e)) (pow-pos (32 + (32 + (1074 - e) - part - twos))) (turn (digits % P) odd (2 ^ twos) d (2 ^ (64 - part)) P (powers twos (1074 - e) l (q .among) (q .few)))
-        ∙ ap (λ (z : ℕ). nearest (signed s (z * odd)) d) (sym kept)
-        ∙ i))
+    whole : 2 ^ e * P ≡ 2 ^ 1075
+    whole = sym (pow-add 2 e (1075 - e)) ∙ ap (λ (z : ℕ). 2 ^ z) (go e h)
       where
-        powers : (a k : ℕ) → a ≤ 16 → part ≤ k → part ≤ 63 → 2 ^ a * 2 ^ (32 + (32 + k - part - a)) ≡ 2 ^ (64 - part) * 2 ^ k
-        powers a k l m n = sym (pow-add 2 a (32 + (32 + k - part - a))) ∙ ap (λ (z : ℕ). 2 ^ z) (go a k part l m n) ∙ pow-add 2 (64 - part) k
+        go : (e : ℕ) → e ≤ 1056 → e + (1075 - e) ≡ 1075
+        go e h = omega arith
+
+    -- less than half a tick is none
+    pub no-tick : (odd twos : ℕ) (span : Span) → Factored odd twos → 103 < 1075 - e → span .units ≡ pos 0 → span .ticks ≡ pos 0 → Rounded (odd * 2 ^ twos) x span
+    unfolding nearestTick
+    no-tick odd twos span f g u r = record {
+      is = nearest-none (pos n *ℤ numerator x) D (subst (λ (z : ℕ). 2 * z < D) (sym (abs-* (pos n) (numerator x))) few) ∙ rw (u, r) (none n);
+      small = record { units = rw u (lit≤ tt); ticks = rw r (lit≤ tt) };
+    }
+      where
+        n : ℕ
+        n = odd * 2 ^ twos
+
+        none : (n : ℕ) → pos 0 ≡ pos n *ℤ pos 0 +ℤ pos 0
+        none n = simp lin (omega arith)
+
+        scaled : P * N ≤ D * m
+        scaled =
+            le-of-mul-le-mul-left
+            (le-trans (le-of-eq (sym (mul-assoc (2 ^ e) P N) ∙ ap (λ (z : ℕ). z * N) whole)) (le-trans (t .under) (le-of-eq (mul-left-comm D (2 ^ e) m))))
+            (pow-pos e)
+
+        few : 2 * (n * N) < D
+        few =
+            go (n * N) N D
+            (mul-le-mul-right N (mul-le-mul (le-of-lt (f .small)) (pow-mono (f .low))))
+            (le-trans (mul-le-mul-right N (pow-mono g)) (le-trans scaled (mul-le-mul-left D (le-of-lt (t .small)))))
+            (den-pos x)
           where
-            go : (a k p : ℕ) → a ≤ 16 → p ≤ k → p ≤ 63 → a + (32 + (32 + k - p - a)) ≡ 64 - p + k
-            go a k p l m n = omega arith
+            go : (w y d : ℕ) → w ≤ 2147483648 * 65536 * y → 20282409603651670423947251286016 * y ≤ d * 9007199254740992 → 0 < d → 2 * w < d
+            go w y d p q r = omega arith
 
-        turn : (f o a d u p : ℕ) → a * d ≡ u * p → f * (o * a) * d ≡ f * u * o * p
-        turn f o a d u p h = omega (arith, ap (λ (z : ℕ). f * o * z) h)
+    -- up to there the leading digit is not missing, and the ticks are those of the digits
+    module _ (g : 1075 - e ≤ 103) where
+      v : Value
+      v = elim (t .value) [
+        | inl z ↦ absurd (go e z g)
+        | inr w ↦ w
+      ]
+        where
+          go : (e : ℕ) → e ≡ 0 → 1075 - e ≤ 103 → ⊥
+          go e z g = omega arith
 
-  -- less than half a tick is none
-  pub no-tick : (odd twos : ℕ) → Factored odd twos → 103 < 1074 - e → Counted (odd * 2 ^ twos) x s 0 0
-  no-tick odd twos f g = record {
-    is = all n ∙ nothing s (digits * n) P (lt-of-lt-of-le (go (digits * n) (mul-le-mul (le-of-lt (t .small)) (mul-le-mul (le-of-lt (f .small)) (pow-mono (f .low))))) (pow-mono g)) ∙ ap (signed s) (none n);
-    few = lit≤ tt;
-    part = zero-le;
-  }
-    where
-      n : ℕ
-      n = odd * 2 ^ twos
+      all : (n : ℕ) → nearestTick n x ≡ nearest (pos n *ℤ digits) P
+      all n =
+          ticks-at x (pos (2 ^ e) *ℤ digits) (2 ^ 1075) n (pow-pos 1075) v
+          ∙ ap (λ (z : ℤ). nearest z (2 ^ 1075)) (*-left-comm (pos n) (pos (2 ^ e)) digits)
+          ∙ ap (nearest (pos (2 ^ e) *ℤ (pos n *ℤ digits))) (sym whole)
+          ∙ nearest-reduced (pos n *ℤ digits) P (2 ^ e) (pow-pos (1075 - e)) (pow-pos e)
 
-      go : (n : ℕ) → n ≤ 9007199254740992 * (2147483648 * 65536) → 2 * n < 20282409603651670423947251286016
-      go n h = omega arith
+      -- a part f of the digits, as c·f: c·f·odd over the last divisor
+      scaled-part : (c d odd twos : ℕ) (f : ℤ) → 0 < d → 2 ^ twos * d ≡ c * P → nearest (pos (odd * 2 ^ twos) *ℤ f) P ≡ nearest (pos odd *ℤ (pos c *ℤ f)) d
+      scaled-part c d odd twos f k i =
+          nearest-same (pos (odd * 2 ^ twos) *ℤ f) (pos odd *ℤ (pos c *ℤ f)) P d (pow-pos (1075 - e)) k (turn odd (2 ^ twos) c d P i f)
+        where
+          turn : (o a c d p : ℕ) → a * d ≡ c * p → (f : ℤ) → pos d *ℤ (pos (o * a) *ℤ f) ≡ pos p *ℤ (pos o *ℤ (pos c *ℤ f))
+          turn o a c d p i = rep _ (λ x y. simp lin (omega (arith, ap (λ (z : ℕ). o * x * z) i, ap (λ (z : ℕ). o * y * z) i)))
 
-      none : (n : ℕ) → 0 ≡ 0 * n + 0
-      none n = omega arith
+      -- ticks of at most a unit are few
+      part-few : (odd twos : ℕ) (f : ℤ) → Factored odd twos → natAbs f ≤ P → natAbs (nearest (pos (odd * 2 ^ twos) *ℤ f) P) ≤ 1000000000000000
+      part-few odd twos f i l =
+          le-trans
+          (nearest-small (pos n *ℤ f) P n (pow-pos (1075 - e)) (le-trans (size-* (pos n) f (le-of-eq refl) l) (le-of-eq (mul-comm n P))))
+          (le-trans (mul-le-mul (le-of-lt (i .small)) (pow-mono (i .low))) (lit≤ tt))
+        where
+          n : ℕ
+          n = odd * 2 ^ twos
+
+      -- ---- no whole unit: from 64 places on
+      pub small-part : (odd twos : ℕ) (span : Span) → Factored odd twos → 63 < 1075 - e → span .units ≡ pos 0
+          → span .ticks ≡ nearest (pos odd *ℤ digits) (2 ^ (32 + (1075 - e - 32 - twos))) → Rounded (odd * 2 ^ twos) x span
+      small-part odd twos span f g u r =
+          let by = 32 + (1075 - e - 32 - twos) in
+          let ticks : nearest (pos n *ℤ digits) P ≡ span .ticks = scaled-part 1 (2 ^ by) odd twos digits (pow-pos by) powers ∙ rw (one-* digits) (sym r) in
+          record {
+            is = all n ∙ ticks ∙ rw u (none n (span .ticks));
+            small = record {
+              units = rw u (lit≤ tt);
+              ticks = rw (← ticks) (part-few odd twos digits f (le-trans (le-of-lt (t .small)) (pow-mono {i = 53} {j = 1075 - e} (le-trans (lit≤ tt) g))));
+            };
+          }
+        where
+          n : ℕ
+          n = odd * 2 ^ twos
+
+          none : (n : ℕ) (z : ℤ) → z ≡ pos n *ℤ pos 0 +ℤ z
+          none n = rep _ (λ a b. simp lin (omega arith))
+
+          powers : 2 ^ twos * 2 ^ (32 + (1075 - e - 32 - twos)) ≡ 1 * P
+          powers = sym (pow-add 2 twos (32 + (1075 - e - 32 - twos))) ∙ ap (λ (z : ℕ). 2 ^ z) (go twos (1075 - e) (f .low) g) ∙ sym (one-mul P)
+            where
+              go : (a k : ℕ) → a ≤ 16 → 63 < k → a + (32 + (k - 32 - a)) ≡ k
+              go a k l m = omega arith
+
+      -- ---- whole units, which come off, and a part of 63 digits
+      abbrev units : ℤ
+      units = floorDiv digits P
+
+      abbrev rest : ℤ
+      rest = digits -ℤ pos P *ℤ units
+
+      units-few : Passed 10000000000 x → natAbs units ≤ 10000000000
+      units-few p =
+          floor-small digits P 10000000000 (pow-pos (1075 - e))
+          (le-of-mul-le-mul-left
+          (le-trans (in-units 10000000000 p v) (le-of-eq (ap (λ (z : ℕ). z * 10000000000) (sym whole) ∙ mul-assoc (2 ^ e) P 10000000000)))
+          (pow-pos e))
+
+      pub whole-part : (odd twos : ℕ) (span : Span) → Factored odd twos → Passed 10000000000 x → 1075 - e ≤ 63 → span .units ≡ units
+          → span .ticks ≡ nearest (pos odd *ℤ (pos (2 ^ (63 - (1075 - e))) *ℤ rest)) (2 ^ (32 + (31 - twos))) → Rounded (odd * 2 ^ twos) x span
+      whole-part odd twos span f p g u r =
+          let by = 32 + (31 - twos) in
+          let ticks : nearest (pos n *ℤ rest) P ≡ span .ticks = scaled-part (2 ^ (63 - (1075 - e))) (2 ^ by) odd twos rest (pow-pos by) powers ∙ sym r in
+          record {
+            is =
+                all n
+                ∙ ap (λ (z : ℤ). nearest z P) (turn P n digits units)
+                ∙ nearest-plus (pos n *ℤ rest) (pos n *ℤ units) P (pow-pos (1075 - e))
+                ∙ +ℤ-comm (nearest (pos n *ℤ rest) P) (pos n *ℤ units)
+                ∙ rw (ticks, u);
+            small = record { units = rw u (le-trans (units-few p) (lit≤ tt)); ticks = rw (← ticks) (part-few odd twos rest f (floor-rest digits P (pow-pos (1075 - e)))) };
+          }
+        where
+          n : ℕ
+          n = odd * 2 ^ twos
+
+          turn : (d n : ℕ) (z u : ℤ) → pos n *ℤ z ≡ pos n *ℤ (z -ℤ pos d *ℤ u) +ℤ pos d *ℤ (pos n *ℤ u)
+          turn d n = rep₂ _ (λ a b c e. simp lin (omega arith))
+
+          powers : 2 ^ twos * 2 ^ (32 + (31 - twos)) ≡ 2 ^ (63 - (1075 - e)) * P
+          powers = sym (pow-add 2 twos (32 + (31 - twos))) ∙ ap (λ (z : ℕ). 2 ^ z) (go twos (1075 - e) (f .low) g) ∙ pow-add 2 (63 - (1075 - e)) (1075 - e)
+            where
+              go : (a k : ℕ) → a ≤ 16 → k ≤ 63 → a + (32 + (31 - a)) ≡ 63 - k + k
+              go a k l m = omega arith
 
 -- a smaller range lies in a larger
 pub wider : (a b : ℕ) (x : Float) → a ≤ b → Passed a x → Passed b x

@@ -6,17 +6,17 @@ use Prim.Native.Nat.{ℕ, _+_, _*_, _^_, _<_, _≤_}
 use lib.Dec.{T}
 use lib.IntN.{ℤ, pos, natAbs, _+ℤ_, _*ℤ_}
 use lib.Ieee.{Float}
-use lib.Ieee.Exact.{HasValue}
 use lib.Ieee.Scale.{finite}
 use Rattle.dates.specs.declared.span.Span.{Span}
-use Rattle.dates.specs.Doubles.{beyond, signed}
-use Rattle.dates.specs.Ticks.{dayTicks, nearestTick, secondTicks}
+use Rattle.dates.specs.Doubles.{beyond, denominator, numerator}
+use Rattle.dates.specs.Ticks.{dayTicks, nearestTick}
 
--- ---- a double taken apart: ±digits·2^exponent units of 2^-1074; the leading digit is in place, or the exponent is the lowest
-pub record Apart (x : Float) (negative : Bool) (digits exponent : ℕ) : Type 0 where
-  pub value : HasValue x negative (digits * 2 ^ exponent) (2 ^ 1074)
-  pub small : digits < 2 ^ 53
-  pub least : (exponent ≡ 0) ⊎ (2 ^ 52 ≤ digits)
+-- ---- a double taken apart: digits·2^exponent units of 2^-1075, or less where the exponent is 0; the leading digit is in place
+pub record Apart (x : Float) (digits : ℤ) (exponent : ℕ) : Type 0 where
+  pub value : (exponent ≡ 0) ⊎ (pos (2 ^ 1075) *ℤ numerator x ≡ pos (denominator x) *ℤ (pos (2 ^ exponent) *ℤ digits))
+  pub under : 2 ^ 1075 * natAbs (numerator x) ≤ denominator x * (2 ^ exponent * natAbs digits)
+  pub least : 2 ^ 52 ≤ natAbs digits
+  pub small : natAbs digits < 2 ^ 53
 
 -- a double that passes refusals 2 and 3, as a test and as what is known then
 abbrev pub passing : ℕ → Float → Bool
@@ -36,47 +36,36 @@ pub record Factored (odd twos : ℕ) : Type 0 where
 pub record Cut (odd by : ℕ) : Type 0 where
   pub small : odd < 2147483648
   pub some : 1 ≤ by
-  pub few : by ≤ 63
+  pub few : by ≤ 62
 
--- the place at which digits of so many places are split into whole units and a part
-pub record PartPlaces (places part : ℕ) : Type 0 where
-  pub among : part ≤ places
-  pub few : part ≤ 63
-  pub all : (part ≡ places) ⊎ (part ≡ 63)
+-- ---- a count of ticks too wide for 64 bits, in units of `per` ticks, and ticks
+abbrev pub worth : ℤ → Span → ℤ
+worth per span = per *ℤ span .units +ℤ span .ticks
 
--- x units of `per` ticks, to the nearest tick, as whole units and ticks of one sign
-pub record Counted (per : ℕ) (x : Float) (negative : Bool) (units ticks : ℕ) : Type 0 where
-  pub is : nearestTick per x ≡ signed negative (units * per + ticks)
-  pub few : units ≤ 10000000000
-  pub part : ticks ≤ per
-
--- ---- a count of ticks too wide for 64 bits, in seconds and ticks
-abbrev pub worth : Span → ℤ
-worth span = pos secondTicks *ℤ span .seconds +ℤ span .ticks
-
--- the seconds and ticks of one date part, or of one reading of seconds
-pub record Sized (seconds ticks : ℕ) : Type 0 where
-  pub fewSeconds : seconds ≤ 1000000000000000
-  pub fewTicks : ticks ≤ 1000000000000000
-
--- at most so many seconds and ticks, either way
+-- at most so many units and ticks, either way
 pub record Within (most : ℕ) (span : Span) : Type 0 where
-  pub seconds : natAbs (span .seconds) ≤ most
+  pub units : natAbs (span .units) ≤ most
   pub ticks : natAbs (span .ticks) ≤ most
 
--- so small that a sum of two fits 64 bits, and that beyond 9·10^9 s the ticks do not lead back into the range
+-- so small that a sum of two fits 64 bits, and that beyond 100,000 days the ticks do not lead back into the range
 abbrev pub modest : ℕ
 modest = 10000000000000000
 
 -- a span's two fields, told
-pub record Spanned (span : Span) (seconds ticks : ℤ) : Type 0 where
-  pub secondsAre : span .seconds ≡ seconds
+pub record Spanned (span : Span) (units ticks : ℤ) : Type 0 where
+  pub unitsAre : span .units ≡ units
   pub ticksAre : span .ticks ≡ ticks
 
 -- a date part, or seconds, to the nearest tick
 pub record Rounded (per : ℕ) (x : Float) (span : Span) : Type 0 where
-  pub is : nearestTick per x ≡ worth span
+  pub is : nearestTick per x ≡ worth (pos per) span
   pub small : Within 1000000000000000 span
+
+-- `most` units of `per` ticks are 100,000 days
+pub record Reach (per most : ℤ) : Type 0 where
+  pub perIs : per ≡ pos (natAbs per)
+  pub mostIs : most ≡ pos (natAbs most)
+  pub days : natAbs per * natAbs most ≡ 100000 * dayTicks
 
 -- ---- a tick counted from 70,000 days before JD 2443144.5, which is 32,184,000,000 ticks before the origin
 pub record Since (tick : ℤ) (since : ℕ) : Type 0 where

@@ -3,33 +3,29 @@ ghost use lib.Dec.{T};
 ghost use lib.Ieee.Scale.{finite};
 ghost use Rattle.dates.specs.Inner.{Apart};
 
-// digits · 2^exponent units of 2^-1074, the smallest double above zero.
+// digits · 2^exponent units of 2^-1075, half of the smallest double above zero.
 pub struct Parts {
-    pub negative: bool,
-    pub digits: u64,
+    pub digits: i64,
     pub exponent: u64,
 }
 
-// A finite double's exact value. The exponent's field counts from 1; at 0 the leading digit is missing.
+// A finite double's exact value, with its leading digit. Where the exponent is 0 that digit is missing: it is given all the same, and the value is less, either
+// way, than is said.
 pub fn take_apart(x: f64) -> Parts
     requires { ⌜ T (finite x) ⌝ }
-    ensures { λ r. ⌜ Apart x (r .negative) (r .digits) (r .exponent) ⌝ }
+    ensures { λ r. ⌜ Apart x (r .digits) (r .exponent) ⌝ }
 {
     let bits: u64 = f64::to_bits(x);
-    let negative: bool = bits >= 0x8000_0000_0000_0000;
-    let field: u64 = (bits >> 52) & 0x7ff;
-    let low: u64 = bits & 0xf_ffff_ffff_ffff;
-    if field == 0 {
-        Parts {
-            negative,
-            digits: low,
-            exponent: 0,
-        }
-    } else {
-        Parts {
-            negative,
-            digits: low + 0x10_0000_0000_0000,
-            exponent: field - 1,
-        }
+    let exponent: u64 = (bits >> 52) & 0x7ff;
+    let digits: u64 = (bits & 0xf_ffff_ffff_ffff) + 0x10_0000_0000_0000;
+    if bits >= 0x8000_0000_0000_0000 {
+        return Parts {
+            digits: -(digits as i64),
+            exponent,
+        };
+    }
+    Parts {
+        digits: digits as i64,
+        exponent,
     }
 }

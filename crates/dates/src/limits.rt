@@ -1,5 +1,6 @@
 // What the desk does not read as a date part or as seconds: refusals 2 and 3.
 ghost use mathlib.Core.Path.{_≡_};
+ghost use mathlib.Core.Bool.{_&&_};
 ghost use lib.Ieee.Scale.{finite};
 ghost use Rattle.dates.specs.Doubles.{beyond};
 ghost use Rattle.dates.specs.Readings.{mostDays, mostSeconds};
@@ -23,7 +24,7 @@ pub fn beyond_days(x: f64) -> bool
 }
 
 // A date part that is neither: no comparison with a NaN holds, and the infinities are beyond.
-pub fn passes_days(x: f64) -> bool
+fn passes_days(x: f64) -> bool
     ensures { λ r. ⌜ r ≡ passing mostDays x ⌝ }
 {
     if x <= 5_000_000.0 {
@@ -31,6 +32,13 @@ pub fn passes_days(x: f64) -> bool
     } else {
         false
     }
+}
+
+// Both parts of a date.
+pub fn both_pass(first: f64, second: f64) -> bool
+    ensures { λ r. ⌜ r ≡ (passing mostDays first && passing mostDays second) ⌝ }
+{
+    passes_days(first) && passes_days(second)
 }
 
 // 'seconds beyond 10^10', either way

@@ -1,8 +1,8 @@
 // What a crew sends, read as a tick.
 use crate::limits::beyond_days;
 use crate::limits::beyond_seconds;
+use crate::limits::both_pass;
 use crate::limits::is_finite;
-use crate::limits::passes_days;
 use crate::span::Span;
 use crate::span::plus;
 use crate::ticks::ticks_of_days;
@@ -13,7 +13,7 @@ ghost use mathlib.Core.Path.{_≡_};
 ghost use mathlib.Core.Bool.{false, _&&_};
 ghost use Rattle.dates.specs.declared.reading.Reading.the-variants as R;
 ghost use Rattle.dates.specs.Readings.{inRange, mostDays, readOf, readOfDate, refusedWith};
-ghost use Rattle.dates.specs.Inner.{Within, modest, passing, worth};
+ghost use Rattle.dates.specs.Inner.{Reach, Within, modest, passing, worth};
 
 // 'A reading is a two-part Julian date in days, two doubles; or seconds past J2000, one double; or ticks.'
 pub enum Reading {
@@ -45,8 +45,8 @@ fn refused(number: u32, place: u64) -> Read
     Read::Refused(Refusal { number, place })
 }
 
-// Refusal 4 outside the range.
-fn ranged(tick: i64) -> Read
+// Ticks, read as they are: refusal 4 outside the range.
+pub fn ranged(tick: i64) -> Read
     ensures { λ r. ⌜ r ≡ inRange tick ⌝ }
 {
     if valid(tick) {
@@ -55,19 +55,21 @@ fn ranged(tick: i64) -> Read
     refused(4, 0)
 }
 
-// So many seconds and ticks. Beyond 9·10^9 s either way no ticks of a span bring it back into the range, and up to there it fits 64 bits.
-fn placed(span: Span) -> Read
+// So many units of `per` ticks, and ticks. `most` units are 100,000 days: beyond them, either way, no ticks of a span bring it back into the range, and up to
+// there it fits 64 bits.
+fn placed(span: Span, per: i64, most: i64) -> Read
     requires { ⌜ Within modest span ⌝ }
-    ensures { λ r. ⌜ r ≡ inRange (worth span) ⌝ }
+    requires { ⌜ Reach per most ⌝ }
+    ensures { λ r. ⌜ r ≡ inRange (worth per span) ⌝ }
 {
-    let seconds = span.seconds;
-    if seconds > 9_000_000_000 {
+    let units = span.units;
+    if units > most {
         return refused(4, 0);
     }
-    if seconds < -9_000_000_000 {
+    if units < -most {
         return refused(4, 0);
     }
-    ranged(seconds * 1_000_000_000 + span.ticks)
+    ranged(units * per + span.ticks)
 }
 
 // The refusal of two parts of which one does not pass: '2 over both parts, 3 over both parts (the first part first in each)'.
@@ -87,24 +89,19 @@ fn no_date(first: f64, second: f64) -> Read
     refused(3, SECOND)
 }
 
-// Both parts, each to its nearest tick, less Julian date 2443144.5003725, which is 211,087,684,832.184 s.
+// Both parts, each to its nearest tick, less Julian date 2443144.5003725, which is 2,443,144 days and 43,232.184 s.
 fn two_part(first: f64, second: f64) -> Read
     ensures { λ r. ⌜ r ≡ readOf (R.TwoPart first second) ⌝ }
 {
-    if !passes_days(first) {
-        return no_date(first, second);
-    }
-    if !passes_days(second) {
+    if !both_pass(first, second) {
         return no_date(first, second);
     }
     let sum = plus(ticks_of_days(first), ticks_of_days(second));
-    placed(plus(
-        sum,
-        Span {
-            seconds: -211_087_684_832,
-            ticks: -184_000_000,
-        },
-    ))
+    let origin = Span {
+        units: -2_443_144,
+        ticks: -43_232_184_000_000,
+    };
+    placed(plus(sum, origin), 86_400_000_000_000, 100_000)
 }
 
 // Seconds past J2000, which is 725,803,167.816 s past Julian date 2443144.5003725.
@@ -117,13 +114,15 @@ fn since_j2000(seconds: f64) -> Read
     if beyond_seconds(seconds) {
         return refused(3, 0);
     }
-    placed(plus(
-        ticks_of_seconds(seconds),
-        Span {
-            seconds: 725_803_167,
-            ticks: 816_000_000,
-        },
-    ))
+    let j2000 = Span {
+        units: 725_803_167,
+        ticks: 816_000_000,
+    };
+    placed(
+        plus(ticks_of_seconds(seconds), j2000),
+        1_000_000_000,
+        8_640_000_000,
+    )
 }
 
 // The tick of a reading, past Julian date 2443144.5003725, or refusal 2, 3 or 4, in that order.

@@ -9,6 +9,7 @@ use borrow.Author.Tests.{eqb-true, eq-eqb, ne-eqb}
 use lib.Dec.{eqb}
 use lib.IntN.{ℤ, pos}
 use lib.ListN.{length, getD}
+use Rattle.numbers.proofs.Places.{map-at}
 use Rattle.scales.specs.declared.answer.Answer.{Answer}
 use Rattle.scales.specs.declared.answer.Answer.the-variants as Answer
 use Rattle.scales.specs.declared.answer.Epoch.{Epoch}
@@ -22,6 +23,7 @@ use Rattle.blocks.specs.declared.answer.Judged.{Judged}
 use Rattle.blocks.specs.declared.answer.Judged.the-variants as J
 use Rattle.blocks.specs.Judging.{judged}
 use Rattle.dates.specs.declared.reading.Reading.the-variants.{Ticks}
+use Rattle.dates.specs.Readings.{readOf}
 use Rattle.desk.specs.declared.asked.Asked.{Asked}
 use Rattle.desk.specs.declared.asked.Asked.the-variants as A
 use Rattle.desk.specs.declared.batch.Batched.{Batched}
@@ -29,7 +31,7 @@ use Rattle.desk.specs.declared.batch.Batched.the-variants.{Converted, Re
 use Rattle.desk.specs.Asked.{askedOf}
 use Rattle.desk.specs.Conversion.{convertAsked, convertJudged, convertOf, coefficientsIn}
 use Rattle.desk.specs.Batch.{earlier, triedOf, batchAsked, batchOf, batchInto}
-use Rattle.desk.proofs.Batches.{map-at, asked-fits, asked-alone}
+use Rattle.desk.proofs.Batches.{asked-fits, asked-alone}
 use Rattle.desk.proofs.Steps.{not-both, Accepted, stepsAsked, asked-steps, named-steps}
 
 -- a batch is accepted or refused, never both
@@ -88,7 +90,7 @@ module _ (entry : ℤ → Answer) (many : ℕ) where
 
 -- ---- a batch, by the conversions of its entries
 -- where there is an entry, trying what is asked is trying the entries' conversions, also where 1 or the table is refused
-asked-tried : (asked : Asked) (tick : ℤ) (more : List ℤ) (table : Judged) (coefficients : List ℤ) → batchAsked asked (tick ∷ more) table coefficients ≡ triedOf (λ t. convertAsked asked (Ticks t) table coefficients) (stepsAsked asked) 0 (tick ∷ more)
+asked-tried : (asked : Asked) (tick : ℤ) (more : List ℤ) (table : Judged) (coefficients : List ℤ) → batchAsked asked (tick ∷ more) table coefficients ≡ triedOf (λ t. convertAsked asked (readOf (Ticks t)) table coefficients) (stepsAsked asked) 0 (tick ∷ more)
 unfolding triedOf
 asked-tried (A.Plain from to) tick more table coefficients = refl
 asked-tried (A.Crossing from to) tick more (J.Accepted numbers) coefficients = refl
@@ -103,7 +105,7 @@ asked-answers (A.Crossing from to) ticks (J.Refused refusal) coefficients e = ne
 asked-answers (A.Refused refusal) ticks table coefficients e = never-both refl e
 
 -- an empty batch is refused where every conversion is, with the same refusal
-asked-empty : (asked : Asked) (table : Judged) (coefficients : List ℤ) {refusal : Refusal} {index : ℕ} → batchAsked asked [] table coefficients ≡ Refused refusal index → (index ≡ 0) × ((tick : ℤ) → convertAsked asked (Ticks tick) table coefficients ≡ Answer.Refused refusal)
+asked-empty : (asked : Asked) (table : Judged) (coefficients : List ℤ) {refusal : Refusal} {index : ℕ} → batchAsked asked [] table coefficients ≡ Refused refusal index → (index ≡ 0) × ((tick : ℤ) → convertAsked asked (readOf (Ticks tick)) table coefficients ≡ Answer.Refused refusal)
 unfolding triedOf
 asked-empty (A.Plain from to) table coefficients e = never-both e refl
 asked-empty (A.Crossing from to) (J.Accepted numbers) coefficients e = never-both e refl
@@ -193,7 +195,7 @@ module _ (from to : ℕ) (bytes : List ℕ) where
   unfolding triedOf convertOf convertJudged
   batch-of-one tick =
       batch-tried (tick ∷ []) 1 refl (omega arith)
-      ∙ one (conversion tick) (λ epoch n d. asked-steps (askedOf from to true) (Ticks tick) (judged bytes) (coefficientsIn bytes) d)
+      ∙ one (conversion tick) (λ epoch n d. asked-steps (askedOf from to true) (readOf (Ticks tick)) (judged bytes) (coefficientsIn bytes) d)
     where
       one : (answer : Answer) {many : ℕ} → ((epoch : Epoch) (n : ℕ) → answer ≡ Answer.Converted epoch n → n ≡ many) → earlier answer 0 (Converted many) ≡ alone answer
       one (Answer.Converted epoch n) h = ap Converted (sym (h epoch n refl))

@@ -1,17 +1,16 @@
 -- The laws of a batch, in the order of its functions: how the entries that are left are tried, which list their ticks are, what is kept of a table, what is asked,
 -- and the whole rule. Assumes nothing.
-use mathlib.Core.Path.{_≡_, refl, sym, _∙_, ap, subst}
+use mathlib.Core.Path.{_≡_, refl, sym, _∙_, ap}
 use mathlib.Core.Bool.{Bool, true, false}
-use mathlib.Core.List.{List, [], _∷_, map}
-use Prim.Native.Nat.{ℕ, zero, suc, _+_, _≤_, _<_}
-use native.Mathlib.Nat.{le-of-suc-le-suc, not-suc-le-zero}
+use mathlib.Core.List.{List}
+use Prim.Native.Nat.{ℕ, _+_, _≤_, _<_}
 use native.Mathlib.Numerals.{add-one}
 use native.Mathlib.Omega.{arith}
 use borrow.Author.Count.{below-more}
 use lib.Dec.{eqb}
 use lib.IntN.{ℤ, pos}
-use lib.ListN.{length, getD, set, drop, length-map, drop-of-length-le}
-use lib.Seq.{drop-cons, ext-getD, getD-set-same, getD-set-other}
+use lib.ListN.{length, getD, set, drop, drop-of-length-le}
+use lib.Seq.{drop-cons, getD-set-same, getD-set-other}
 use Rattle.scales.specs.declared.answer.Answer.{Answer}
 use Rattle.scales.specs.declared.answer.Answer.the-variants as Answer
 use Rattle.scales.specs.declared.answer.Epoch.{Epoch}
@@ -25,13 +24,15 @@ use Rattle.image.proofs.Stores.{not-same}
 use Rattle.blocks.specs.declared.answer.Judged.the-variants as J
 use Rattle.blocks.specs.Judging.{judged}
 use Rattle.dates.specs.declared.reading.Reading.the-variants.{Ticks}
+use Rattle.dates.specs.Readings.{inRange, readOf}
 use Rattle.desk.specs.declared.asked.Asked.{Asked}
 use Rattle.desk.specs.declared.asked.Asked.the-variants as A
 use Rattle.desk.specs.declared.batch.Batched.{Batched}
 use Rattle.desk.specs.declared.batch.Batched.the-variants.{Converted, Refused}
+use Rattle.desk.specs.declared.walk.Kept.{Kept}
 use Rattle.desk.specs.Asked.{askedFor, askedOf}
-use Rattle.desk.specs.Conversion.{convertAsked, convertJudged, convertOf, coefficientsIn}
-use Rattle.desk.specs.Batch.{earlier, triedOf, batchAsked, batchOf, batchInto, HasConverted}
+use Rattle.desk.specs.Conversion.{betweenOf, convertAsked, convertJudged, convertOf, coefficientsIn}
+use Rattle.desk.specs.Batch.{entryOf, earlier, triedOf, batchAsked, batchOf, batchInto, HasConverted}
 use Rattle.desk.specs.Inner.{soonerOf, laterOf, endsOf, ticksBy, Filled, FilledTaken, FilledCrossing}
 use Rattle.desk.proofs.Opening.{coefficients-are}
 
@@ -61,17 +62,7 @@ module _ (earliest latest : ℤ) (ticks : List ℤ) (index : ℕ) where
   unfolding endsOf
   no-wider h = rw (drop-of-length-le ticks h)
 
--- ---- a list by its places, each made of the same place of another
-pub map-at : {A B : Type 0} (f : A → B) (l : List A) (d : A) (e : B) (i : ℕ) → i < length l → getD (map f l) i e ≡ f (getD l i d)
-map-at f [] d e i h = absurd (not-suc-le-zero h)
-map-at f (a ∷ l) d e zero h = refl
-map-at f (a ∷ l) d e (suc i) h = map-at f l d e i (le-of-suc-le-suc h)
-
-pub is-map : {A B : Type 0} (f : A → B) (l : List A) (m : List B) (d : A) (e : B) → length m ≡ length l → ((i : ℕ) → i < length l → getD m i e ≡ f (getD l i d)) → m ≡ map f l
-is-map f l m d e long each =
-    ext-getD e m (map f l) (long ∙ sym (length-map l f)) (λ i h. let k = subst (λ (n : ℕ). i < n) long h in each i k ∙ sym (map-at f l d e i k))
-
--- what is written so far, and one more
+-- ---- what is written so far, and one more
 pub written-more : (l : List ℤ) (i : ℕ) (x : ℤ) (of : ℕ → ℤ) → i < length l → ((j : ℕ) → j < i → getD l j (pos 0) ≡ of j) → x ≡ of i → (j : ℕ) → j < i + 1 → getD (set l i x) j (pos 0) ≡ of j
 written-more l i x of h before here = below-more (λ j. getD (set l i x) j (pos 0) ≡ of j) i
     (λ j k. getD-set-other l i j x (pos 0) (not-same k) ∙ before j k)
@@ -119,6 +110,11 @@ plain-sound start end refusal e = let z : _≡_ {A = ℕ} 0 1 = cc in omega arit
 pub crossing-sound : (start end : Scale) (refusal : Refusal) → A.Crossing start end ≡ A.Refused refusal → ⊥
 crossing-sound start end refusal e = let z : _≡_ {A = ℕ} 0 1 = cc in omega arith
 
+-- ---- an entry is read as the tick that it is
+pub entry-read : (from to : Scale) (kept : Kept) (coefficients : List ℤ) (tick : ℤ) → betweenOf from to (inRange tick) kept coefficients ≡ entryOf from to kept coefficients tick
+unfolding readOf
+entry-read from to kept coefficients tick = refl
+
 -- ---- the whole rule
 module _ (from to : ℕ) (ticks answers : List ℤ) (bytes : List ℕ) where
   pub has-refused : (refusal : Refusal) → askedOf from to (eqb (length ticks) (length answers)) ≡ A.Refused refusal → HasConverted from to ticks answers answers bytes (Refused refusal 0)
@@ -126,7 +122,7 @@ module _ (from to : ℕ) (ticks answers : List ℤ) (bytes : List ℕ) where
   has-refused refusal e = record { answer = rw e; list = rw e }
 
   pub has-converted : (asked : Asked) {answers' : List ℤ} {r : Batched} → askedOf from to (eqb (length ticks) (length answers)) ≡ asked → askedOf from to true ≡ asked
-      → Filled (batchAsked asked ticks (judged bytes) (coefficientsIn bytes)) (λ tick. convertAsked asked (Ticks tick) (judged bytes) (coefficientsIn bytes)) ticks answers answers' r
+      → Filled (batchAsked asked ticks (judged bytes) (coefficientsIn bytes)) (λ tick. convertAsked asked (readOf (Ticks tick)) (judged bytes) (coefficientsIn bytes)) ticks answers answers' r
       → HasConverted from to ticks answers answers' bytes r
   unfolding batchOf batchInto convertOf convertJudged
   has-converted asked e d filled = record { answer = rw e (filled .is); list = rw (e, d) (filled .list) }

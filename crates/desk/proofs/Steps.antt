@@ -67,10 +67,10 @@ started-steps : (walk : ℤ → Answer) (read : Read) {many : ℕ} {epoch : Epoc
 started-steps walk (R.Tick tick) h e = h tick e
 started-steps walk (R.Refused refusal) h e = not-both refl e
 
-pub between-steps : (from to : Scale) (reading : Reading) (kept : Kept) (coefficients : List ℤ) {epoch : Epoch} {n : ℕ} → betweenOf from to reading kept coefficients ≡ Converted epoch n → n ≡ steps from to
+pub between-steps : (from to : Scale) (read : Read) (kept : Kept) (coefficients : List ℤ) {epoch : Epoch} {n : ℕ} → betweenOf from to read kept coefficients ≡ Converted epoch n → n ≡ steps from to
 unfolding betweenOf
-between-steps from to reading kept coefficients e =
-    started-steps _ (readOf reading) (λ tick d. steps-are kept coefficients (path from to) from 0 tick d ∙ zero-add (steps from to)) e
+between-steps from to read kept coefficients e =
+    started-steps _ read (λ tick d. steps-are kept coefficients (path from to) from 0 tick d ∙ zero-add (steps from to)) e
 
 -- the steps of the path that is asked for, 0 where it is refused
 abbrev pub stepsAsked : Asked → ℕ
@@ -78,11 +78,11 @@ stepsAsked (A.Plain from to) = steps from to
 stepsAsked (A.Crossing from to) = steps from to
 stepsAsked (A.Refused refusal) = 0
 
-pub asked-steps : (asked : Asked) (reading : Reading) (table : Judged) (coefficients : List ℤ) {epoch : Epoch} {n : ℕ} → convertAsked asked reading table coefficients ≡ Converted epoch n → n ≡ stepsAsked asked
-asked-steps (A.Plain from to) reading table coefficients e = between-steps from to reading Nothing [] e
-asked-steps (A.Crossing from to) reading (J.Accepted numbers) coefficients e = between-steps from to reading (Table numbers) coefficients e
-asked-steps (A.Crossing from to) reading (J.Refused refusal) coefficients e = not-both refl e
-asked-steps (A.Refused refusal) reading table coefficients e = not-both refl e
+pub asked-steps : (asked : Asked) (read : Read) (table : Judged) (coefficients : List ℤ) {epoch : Epoch} {n : ℕ} → convertAsked asked read table coefficients ≡ Converted epoch n → n ≡ stepsAsked asked
+asked-steps (A.Plain from to) read table coefficients e = between-steps from to read Nothing [] e
+asked-steps (A.Crossing from to) read (J.Accepted numbers) coefficients e = between-steps from to read (Table numbers) coefficients e
+asked-steps (A.Crossing from to) read (J.Refused refusal) coefficients e = not-both refl e
+asked-steps (A.Refused refusal) read table coefficients e = not-both refl e
 
 -- between two scales that are named
 module _ (from to : ℕ) (start end : Scale) (begins : scaleOf from 0 ≡ N.Scale start) (ends : scaleOf to 1 ≡ N.Scale end) where
@@ -96,4 +96,4 @@ module _ (from to : ℕ) (start end : Scale) (begins : scaleOf from 0 ≡ N.Scal
 
   pub conversion-steps : (reading : Reading) (bytes : List ℕ) {epoch : Epoch} {n : ℕ} → convertOf from to reading bytes ≡ Converted epoch n → n ≡ steps start end
   unfolding convertOf convertJudged
-  conversion-steps reading bytes e = asked-steps (askedOf from to true) reading (judged bytes) (coefficientsIn bytes) e ∙ named-steps
+  conversion-steps reading bytes e = asked-steps (askedOf from to true) (readOf reading) (judged bytes) (coefficientsIn bytes) e ∙ named-steps

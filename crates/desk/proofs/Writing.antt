@@ -4,6 +4,7 @@ use mathlib.Core.List.{List}
 use Prim.Native.Nat.{ℕ, _+_, _≤_, _<_}
 use lib.IntN.{ℤ, pos}
 use lib.ListN.{length, getD, length-map}
+use Rattle.numbers.proofs.Places.{map-at, is-map}
 use Rattle.scales.specs.declared.answer.Answer.{Answer}
 use Rattle.scales.specs.declared.answer.Answer.the-variants.{Converted}
 use Rattle.scales.specs.declared.path.Step.{Step}
@@ -16,7 +17,6 @@ use Rattle.desk.specs.declared.walk.Kept.{Kept}
 use Rattle.desk.specs.Batch.{entryOf, allTried}
 use Rattle.desk.specs.Inner.{ticksBy, tickReached, allStepped}
 use Rattle.desk.specs.Walk.{stepOf}
-use Rattle.desk.proofs.Batches.{map-at, is-map}
 use Rattle.desk.proofs.BatchTheorems.{tried-accepted}
 use Rattle.desk.proofs.Interval.{entry-walk}
 use Rattle.desk.proofs.Steps.{Accepted, stepping}

@@ -15,6 +15,7 @@ use Rattle.blocks.specs.declared.answer.Judged.{Judged}
 use Rattle.blocks.specs.declared.answer.Judged.the-variants as J
 use Rattle.blocks.specs.Judging.{judged}
 use Rattle.dates.specs.declared.reading.Reading.the-variants.{Ticks}
+use Rattle.dates.specs.Readings.{readOf}
 use Rattle.desk.specs.declared.asked.Asked.{Asked}
 use Rattle.desk.specs.declared.asked.Asked.the-variants as A
 use Rattle.desk.specs.declared.batch.Batched.{Batched}
@@ -26,7 +27,7 @@ use Rattle.desk.specs.Conversion.{betweenOf, convertOf, coefficientsIn}
 
 -- one entry
 abbrev pub entryOf : Scale → Scale → Kept → List ℤ → ℤ → Answer
-entryOf from to kept coefficients tick = betweenOf from to (Ticks tick) kept coefficients
+entryOf from to kept coefficients tick = betweenOf from to (readOf (Ticks tick)) kept coefficients
 
 -- 'the earliest refusal is the batch's, with its index'
 abbrev pub earlier : Answer → ℕ → Batched → Batched

@@ -23,28 +23,28 @@ use Rattle.desk.specs.declared.walk.Kept.the-variants.{Nothing, Table}
 use Rattle.desk.specs.Asked.{askedOf}
 use Rattle.desk.specs.Walk.{walkOf}
 
--- on from the tick of a reading
+-- on from what was read
 abbrev pub started : (ℤ → Answer) → Read → Answer
 started walk (R.Tick tick) = walk tick
 started walk (R.Refused refusal) = Refused refusal
 
 -- 'then 2 over both parts, 3 over both parts .., 4, then step by step, 6 before 4'
-unfoldable pub betweenOf : Scale → Scale → Reading → Kept → List ℤ → Answer
-betweenOf from to reading kept coefficients = started (walkOf kept coefficients (path from to) from 0) (readOf reading)
+unfoldable pub betweenOf : Scale → Scale → Read → Kept → List ℤ → Answer
+betweenOf from to read kept coefficients = started (walkOf kept coefficients (path from to) from 0) read
 
 -- 'then the table 10 to 16', over bytes that were judged and the coefficients that they hold
-abbrev pub crossedOf : Scale → Scale → Reading → Judged → List ℤ → Answer
-crossedOf from to reading (J.Accepted table) coefficients = betweenOf from to reading (Table table) coefficients
-crossedOf from to reading (J.Refused refusal) coefficients = Refused refusal
+abbrev pub crossedOf : Scale → Scale → Read → Judged → List ℤ → Answer
+crossedOf from to read (J.Accepted table) coefficients = betweenOf from to read (Table table) coefficients
+crossedOf from to read (J.Refused refusal) coefficients = Refused refusal
 
 -- '1 (from, then to) ..'. 'A path that doesn't cross never looks at the table.'
-abbrev pub convertAsked : Asked → Reading → Judged → List ℤ → Answer
-convertAsked (A.Plain from to) reading table coefficients = betweenOf from to reading Nothing []
-convertAsked (A.Crossing from to) reading table coefficients = crossedOf from to reading table coefficients
-convertAsked (A.Refused refusal) reading table coefficients = Refused refusal
+abbrev pub convertAsked : Asked → Read → Judged → List ℤ → Answer
+convertAsked (A.Plain from to) read table coefficients = betweenOf from to read Nothing []
+convertAsked (A.Crossing from to) read table coefficients = crossedOf from to read table coefficients
+convertAsked (A.Refused refusal) read table coefficients = Refused refusal
 
 unfoldable pub convertJudged : ℕ → ℕ → Reading → Judged → List ℤ → Answer
-convertJudged from to reading table coefficients = convertAsked (askedOf from to true) reading table coefficients
+convertJudged from to reading table coefficients = convertAsked (askedOf from to true) (readOf reading) table coefficients
 
 -- the coefficients that table bytes hold, granule by granule
 unfoldable pub coefficientsIn : List ℕ → List ℤ

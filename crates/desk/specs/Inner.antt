@@ -29,8 +29,10 @@ use Rattle.blocks.specs.declared.answer.Judged.{Judged}
 use Rattle.blocks.specs.declared.answer.Judged.the-variants as J
 use Rattle.blocks.specs.Judging.{judged}
 use Rattle.ephemeris.specs.Accepted.{Accepted}
-use Rattle.dates.specs.declared.reading.Reading.{Reading}
+use Rattle.dates.specs.declared.reading.Read.{Read}
 use Rattle.dates.specs.declared.reading.Reading.the-variants.{Ticks}
+use Rattle.dates.specs.Readings.{readOf}
+use Rattle.desk.specs.declared.asked.Asked.{Asked}
 use Rattle.desk.specs.declared.batch.Batched.{Batched}
 use Rattle.desk.specs.declared.batch.Batched.the-variants as Batched
 use Rattle.desk.specs.declared.batch.Ends.{Ends}
@@ -38,7 +40,7 @@ use Rattle.desk.specs.declared.step.Stepped.{Stepped}
 use Rattle.desk.specs.declared.step.Stepped.the-variants.{Reached, OutsideTable, OutsideRange}
 use Rattle.desk.specs.declared.walk.Kept.{Kept}
 use Rattle.desk.specs.declared.walk.Kept.the-variants as K
-use Rattle.desk.specs.Conversion.{betweenOf, crossedOf, coefficientsIn}
+use Rattle.desk.specs.Conversion.{betweenOf, crossedOf, convertAsked, coefficientsIn}
 use Rattle.desk.specs.Batch.{allTried, batchCrossed, entryOf, left}
 use Rattle.desk.specs.Walk.{stepOf}
 
@@ -95,11 +97,14 @@ fromTcb (Tcb.Reached tcb) = Reached (tcb .0)
 fromTcb Tcb.Outside = OutsideRange
 
 -- ---- a conversion over bytes
-abbrev pub takenOver : Scale → Scale → Reading → List ℕ → Table → Answer
-takenOver from to reading bytes table = betweenOf from to reading (K.Table table) (coefficientsOf bytes (table .count) (table .degree))
+abbrev pub takenOver : Scale → Scale → Read → List ℕ → Table → Answer
+takenOver from to read bytes table = betweenOf from to read (K.Table table) (coefficientsOf bytes (table .count) (table .degree))
 
-abbrev pub overBytes : Scale → Scale → Reading → List ℕ → Answer
-overBytes from to reading bytes = crossedOf from to reading (judged bytes) (coefficientsIn bytes)
+abbrev pub overBytes : Scale → Scale → Read → List ℕ → Answer
+overBytes from to read bytes = crossedOf from to read (judged bytes) (coefficientsIn bytes)
+
+abbrev pub askedOver : Asked → Read → List ℕ → Answer
+askedOver asked read bytes = convertAsked asked read (judged bytes) (coefficientsIn bytes)
 
 -- ---- a batch
 -- of two ticks the earlier, and the later
@@ -163,4 +168,4 @@ FilledTaken from to ticks answers answers' bytes table r =
 
 abbrev pub FilledCrossing : Scale → Scale → List ℤ → List ℤ → List ℤ → List ℕ → Batched → Type 0
 FilledCrossing from to ticks answers answers' bytes r =
-    Filled (batchCrossed from to ticks (judged bytes) (coefficientsIn bytes)) (λ tick. overBytes from to (Ticks tick) bytes) ticks answers answers' r
+    Filled (batchCrossed from to ticks (judged bytes) (coefficientsIn bytes)) (λ tick. overBytes from to (readOf (Ticks tick)) bytes) ticks answers answers' r

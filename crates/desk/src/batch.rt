@@ -10,7 +10,7 @@ use crate::step::take_step;
 use crate::walk::Kept;
 use blocks::answer::Judged;
 use blocks::judging::judge;
-use dates::reading::Reading;
+use dates::reading::ranged;
 use image::table::Table;
 use scales::answer::Answer;
 use scales::answer::Refusal;
@@ -78,7 +78,7 @@ fn is_accepted(from: Scale, to: Scale, tick: i64, kept: Kept, coefficients: &[i6
     requires { ⌜ Held kept (now coefficients) ⌝ }
     ensures { λ r. ⌜ r ≡ isAccepted (entryOf from to kept (now (coefficients .entry)) tick) ⌝ }
 {
-    match between(from, to, Reading::Ticks(tick), kept, coefficients) {
+    match between(from, to, ranged(tick), kept, coefficients) {
         Answer::Converted(_, _) => true,
         Answer::Refused(_) => false,
     }
@@ -92,7 +92,7 @@ fn tried_each(from: Scale, to: Scale, ticks: &[i64], kept: Kept, coefficients: &
     let mut index = 0;
     while index < ticks.len() {
         let tick = ticks[index];
-        match between(from, to, Reading::Ticks(tick), kept, coefficients) {
+        match between(from, to, ranged(tick), kept, coefficients) {
             Answer::Refused(refusal) => {
                 return Batched::Refused(refusal, index as u64);
             }

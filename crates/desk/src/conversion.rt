@@ -12,38 +12,72 @@ use dates::reading::Reading;
 use dates::reading::tick_of;
 use image::table::Table;
 use scales::answer::Answer;
+use scales::answer::Epoch;
+use scales::answer::Refusal;
+use scales::path::Way;
+use scales::path::next_step;
 use scales::scale::Scale;
 ghost use mathlib.Core.Path.{_≡_};
+ghost use Rattle.dates.specs.declared.reading.Read.the-variants as R;
 ghost use Rattle.desk.specs.Conversion.{betweenOf, crossedOf, convertJudged, convertOf};
-ghost use Rattle.desk.specs.Inner.{Held, Opened, Lent, overBytes, takenOver};
+ghost use Rattle.desk.specs.Inner.{Held, Opened, Lent, askedOver, overBytes, takenOver};
 
-// The reading's tick, walked. The coefficients are those of the table that is kept.
-pub fn between(from: Scale, to: Scale, reading: Reading, kept: Kept, coefficients: &[i64]) -> Answer
+// What was read, walked. The coefficients are those of the table that is kept.
+pub fn between(from: Scale, to: Scale, read: Read, kept: Kept, coefficients: &[i64]) -> Answer
     requires { ⌜ Held kept (now coefficients) ⌝ }
-    ensures { λ r. ⌜ r ≡ betweenOf from to reading kept (now (coefficients .entry)) ⌝ }
+    ensures { λ r. ⌜ r ≡ betweenOf from to read kept (now (coefficients .entry)) ⌝ }
 {
-    match tick_of(reading) {
+    match read {
         Read::Tick(tick) => walk(from, to, tick, kept, coefficients),
         Read::Refused(refusal) => Answer::Refused(refusal),
     }
 }
 
 // Over the table that the bytes hold. They have been judged and accepted.
-fn taken_over(from: Scale, to: Scale, reading: Reading, bytes: &[u8], table: Table) -> Answer
+fn taken_over(from: Scale, to: Scale, read: Read, bytes: &[u8], table: Table) -> Answer
     requires { ⌜ Opened (now bytes) table ⌝ }
-    ensures { λ r. ⌜ r ≡ takenOver from to reading (now (bytes .entry)) table ⌝ }
+    ensures { λ r. ⌜ r ≡ takenOver from to read (now (bytes .entry)) table ⌝ }
 {
     let coefficients = taken(bytes, table);
     let many = how_many(table);
-    between(from, to, reading, Kept::Table(table), &coefficients[..many])
+    between(from, to, read, Kept::Table(table), &coefficients[..many])
 }
 
-fn over_bytes(from: Scale, to: Scale, reading: Reading, bytes: &[u8]) -> Answer
-    ensures { λ r. ⌜ r ≡ overBytes from to reading (now (bytes .entry)) ⌝ }
+// Over any bytes. This has room for the largest table, which no other conversion should pay for: a compiler keeps it apart as long as it is called for a tick
+// and for a refusal.
+fn over_bytes(from: Scale, to: Scale, read: Read, bytes: &[u8]) -> Answer
+    ensures { λ r. ⌜ r ≡ overBytes from to read (now (bytes .entry)) ⌝ }
 {
     match judge(bytes) {
-        Judged::Accepted(table) => taken_over(from, to, reading, bytes, table),
+        Judged::Accepted(table) => taken_over(from, to, read, bytes, table),
         Judged::Refused(refusal) => Answer::Refused(refusal),
+    }
+}
+
+// A tick that was read, converted. Into its own scale it goes as it is, which is all that a reading by itself takes: that answer is returned at once.
+fn convert_tick(asked: Asked, tick: i64, table: &[u8]) -> Answer
+    ensures { λ r. ⌜ r ≡ askedOver asked (R.Tick tick) (now (table .entry)) ⌝ }
+{
+    match asked {
+        Asked::Plain(start, end) => {
+            let Way::By(_) = next_step(start, end) else {
+                return Answer::Converted(Epoch { scale: start, tick }, 0);
+            };
+            walk(start, end, tick, Kept::Nothing, &[])
+        }
+        Asked::Crossing(start, end) => over_bytes(start, end, Read::Tick(tick), table),
+        Asked::Refused(refusal) => Answer::Refused(refusal),
+    }
+}
+
+// A reading that was refused: what comes before it in the order is refused first.
+fn refuse(asked: Asked, refusal: Refusal, table: &[u8]) -> Answer
+    ensures { λ r. ⌜ r ≡ askedOver asked (R.Refused refusal) (now (table .entry)) ⌝ }
+{
+    match asked {
+        Asked::Plain(_, _) => Answer::Refused(refusal),
+        Asked::Crossing(start, end) => over_bytes(start, end, Read::Refused(refusal), table),
+        Asked::Refused(earlier) => Answer::Refused(earlier),
     }
 }
 
@@ -52,19 +86,19 @@ fn over_bytes(from: Scale, to: Scale, reading: Reading, bytes: &[u8]) -> Answer
 pub fn convert(from: u32, to: u32, reading: Reading, table: &[u8]) -> Answer
     ensures { λ r. ⌜ r ≡ convertOf from to reading (now (table .entry)) ⌝ }
 {
-    match asked_of(from, to, true) {
-        Asked::Plain(start, end) => between(start, end, reading, Kept::Nothing, &[]),
-        Asked::Crossing(start, end) => over_bytes(start, end, reading, table),
-        Asked::Refused(refusal) => Answer::Refused(refusal),
+    let asked = asked_of(from, to, true);
+    match tick_of(reading) {
+        Read::Tick(tick) => convert_tick(asked, tick, table),
+        Read::Refused(refusal) => refuse(asked, refusal, table),
     }
 }
 
-fn crossed(from: Scale, to: Scale, reading: Reading, judged: Judged, coefficients: &[i64]) -> Answer
+fn crossed(from: Scale, to: Scale, read: Read, judged: Judged, coefficients: &[i64]) -> Answer
     requires { ⌜ Lent judged (now coefficients) ⌝ }
-    ensures { λ r. ⌜ r ≡ crossedOf from to reading judged (now (coefficients .entry)) ⌝ }
+    ensures { λ r. ⌜ r ≡ crossedOf from to read judged (now (coefficients .entry)) ⌝ }
 {
     match judged {
-        Judged::Accepted(table) => between(from, to, reading, Kept::Table(table), coefficients),
+        Judged::Accepted(table) => between(from, to, read, Kept::Table(table), coefficients),
         Judged::Refused(refusal) => Answer::Refused(refusal),
     }
 }
@@ -80,9 +114,10 @@ pub fn convert_judged(
     requires { ⌜ Lent judged (now coefficients) ⌝ }
     ensures { λ r. ⌜ r ≡ convertJudged from to reading judged (now (coefficients .entry)) ⌝ }
 {
+    let read = tick_of(reading);
     match asked_of(from, to, true) {
-        Asked::Plain(start, end) => between(start, end, reading, Kept::Nothing, &[]),
-        Asked::Crossing(start, end) => crossed(start, end, reading, judged, coefficients),
+        Asked::Plain(start, end) => between(start, end, read, Kept::Nothing, &[]),
+        Asked::Crossing(start, end) => crossed(start, end, read, judged, coefficients),
         Asked::Refused(refusal) => Answer::Refused(refusal),
     }
 }

@@ -6,19 +6,14 @@ use native.Mathlib.Nat.{mul-le-mul-right, le-refl}
 use native.Mathlib.Omega.{arith}
 use lib.Dec.{lit<}
 use lib.IntN.{ℤ, pos, _+ℤ_, _-ℤ_, _*ℤ_, natAbs}
-use lib.Signed.{shrZ, _≤ℤ_, _<ℤ_}
+use lib.Signed.{shrZ}
 use mir.Syntax.{w64}
 use mir.Val.{SFits}
 use Rattle.numbers.specs.Rounding.{floorDiv, nearest}
-use Rattle.numbers.proofs.Differences.{rep₂, lin}
 use Rattle.numbers.proofs.Order.{size-*, size-+}
 use Rattle.numbers.proofs.Machine.{shr-floor, read, read-is, fits-small}
-use Rattle.numbers.proofs.Rounding.{floored, floor-small, nearest-split}
+use Rattle.numbers.proofs.Rounding.{floor-rest, floor-small, nearest-split}
 use Rattle.granule.specs.Asked.{Factors}
-
--- what is left of a number after its multiples of d
-rest : (d : ℕ) (x m : ℤ) → m ≤ℤ x → x <ℤ (m +ℤ pos d) → natAbs (x -ℤ m) ≤ d
-rest d = rep₂ _ (λ a b c e. simp lin (omega arith))
 
 -- ---- the numbers themselves
 abbrev high : ℤ → ℕ → ℤ
@@ -75,9 +70,7 @@ module _ (u b : ℤ) (half : ℕ) (l : 2 ^ 28 ≤ half) (g : half ≤ 2 ^ 29) (f
   taken-small = omega (arith, size-* (pos (2 * half)) (high b half) (le-refl (2 * half)) high-small, mul-le-mul-right (2 ^ 31) g)
 
   low-small : natAbs (low b half) ≤ 2 ^ 30
-  low-small =
-      let o = floored b (2 * half) (omega arith) in
-      omega (arith, rest (2 * half) b (taken b half) (o .under) (o .above))
+  low-small = omega (arith, floor-rest b (2 * half) (omega arith))
 
   coarse-small : natAbs (u *ℤ high b half) ≤ 2 ^ 61
   coarse-small = size-* u (high b half) (f .argument) high-small

@@ -91,11 +91,22 @@ pub fn delay(v: Units) -> i64
     ((v.0 >> 15) + 1) >> 1
 }
 
-// Whether a coefficient lies within 2^40 either way.
+// |c|
+fn size(c: i64) -> u64
+    ensures { λ r. ⌜ r ≡ natAbs c ⌝ }
+{
+    if c < 0 {
+        1 + ((-1 - c) as u64)
+    } else {
+        c as u64
+    }
+}
+
+// Whether a coefficient lies within 2^40 either way: by |c|, which the weight needs too.
 fn within(c: i64) -> bool
     ensures { λ r. ⌜ r ≡ isWithin c ⌝ }
 {
-    -1_099_511_627_776 <= c && c <= 1_099_511_627_776
+    size(c) <= 1_099_511_627_776
 }
 
 // Test 14: no coefficient is 'beyond 2^40 either way'.
@@ -111,17 +122,6 @@ pub fn small(coefficients: &[i64]) -> bool
         k += 1;
     }
     true
-}
-
-// |c|
-fn size(c: i64) -> u64
-    ensures { λ r. ⌜ r ≡ natAbs c ⌝ }
-{
-    if c < 0 {
-        1 + ((-1 - c) as u64)
-    } else {
-        c as u64
-    }
 }
 
 // 'the sum of k²·|c_k|'. Test 14 comes before 15, so the coefficients are within 2^40, and the sum fits.

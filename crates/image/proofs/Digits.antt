@@ -125,10 +125,10 @@ zero-quad b at e (suc (suc zero)) l = omega arith
 zero-quad b at e (suc (suc (suc zero))) l = omega arith
 zero-quad b at e (suc (suc (suc (suc u)))) l = let z : ⊥ = omega arith in absurd z
 
--- past m bytes that are 0, a word more
-pub zero-more : (b : List ℕ) (at m : ℕ) → ((u : ℕ) → u < m → from b at u ≡ 0) → wordAt b (at + m) ≡ 0 → (u : ℕ) → u < m + 8 → from b at u ≡ 0
-zero-more b at m h e u l = go (decLt u m)
+-- past m bytes that are 0, n more
+pub zero-more : (b : List ℕ) (at m n : ℕ) → ((u : ℕ) → u < m → from b at u ≡ 0) → ((u : ℕ) → u < n → from b (at + m) u ≡ 0) → (u : ℕ) → u < m + n → from b at u ≡ 0
+zero-more b at m n h k u l = go (decLt u m)
   where
     go : Dec (u < m) → from b at u ≡ 0
     go (yes d) = h u d
-    go (no d) = let x : at + u ≡ at + m + (u - m) = omega arith in ap (λ x. getD b x 0) x ∙ zero-word b (at + m) e (u - m) (omega arith)
+    go (no d) = let x : at + u ≡ at + m + (u - m) = omega arith in ap (λ x. getD b x 0) x ∙ k (u - m) (omega arith)

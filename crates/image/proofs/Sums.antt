@@ -45,14 +45,16 @@ sumA-two f i p x y e d h =
     let t : p + (x + y) ≡ p + x + y = omega arith in
     t ∙ sumA-more f (2 * i + 1) (p + x) y (sumA-more f (2 * i) p x e d) h ∙ ap (sumA f) n
 
-pub sumB-two : (f : ℕ → ℕ) (i p x y : ℕ) → p ≡ sumB f (2 * i) → x ≡ wordOf f (2 * i) → y ≡ wordOf f (2 * i + 1) → p + ((254 - 2 * i) * x + (253 - 2 * i) * y) ≡ sumB f (2 * (i + 1))
-sumB-two f i p x y e d h =
+-- both with the weight w of the first, so that p is more by the second words
+pub sumB-two : (f : ℕ → ℕ) (i p s w x y : ℕ) → i < 127 → w + 2 * i ≡ 254 → p ≡ sumB f (2 * i) + s → x ≡ wordOf f (2 * i) → y ≡ wordOf f (2 * i + 1) → p + w * (x + y) ≡ sumB f (2 * (i + 1)) + (s + y)
+sumB-two f i p s w x y l t e d h =
     let n : 2 * i + 1 + 1 ≡ 2 * (i + 1) = omega arith in
-    let w : 253 - 2 * i ≡ 254 - (2 * i + 1) = omega arith in
-    apart p _ _ ∙ ap (λ (v : ℕ). p + (254 - 2 * i) * x + v * y) w ∙ sumB-more f (2 * i + 1) (p + (254 - 2 * i) * x) y (sumB-more f (2 * i) p x e d) h ∙ ap (sumB f) n
+    let a : w ≡ 254 - 2 * i = omega arith in
+    let b : w ≡ 254 - (2 * i + 1) + 1 = omega arith in
+    apart (sumB f (2 * i)) p s w (254 - (2 * i + 1)) x y b e ∙ ap (λ (v : ℕ). sumB f (2 * i) + v * x + (254 - (2 * i + 1)) * y + (s + y)) a ∙ ap (λ (v : ℕ). v + (s + y)) (sumB-more f (2 * i + 1) (sumB f (2 * i) + (254 - 2 * i) * x) y (sumB-more f (2 * i) _ x refl d) h ∙ ap (sumB f) n)
   where
-    apart : (p x y : ℕ) → p + (x + y) ≡ p + x + y
-    apart p x y = omega arith
+    apart : (q p s w v x y : ℕ) → w ≡ v + 1 → p ≡ q + s → p + w * (x + y) ≡ q + w * x + v * y + (s + y)
+    apart q p s w v x y e d = rw (e, d) (omega arith)
 
 -- ---- bytes that agree have one check
 sumA-same : (f g : ℕ → ℕ) (n m : ℕ) → 2 * n ≤ m → ((j : ℕ) → j < m → f j ≡ g j) → sumA f n ≡ sumA g n

@@ -15,23 +15,28 @@ pub struct Check {
     pub b: u64,
 }
 
-// 'A = sum of w_i mod 65535, B = sum of (254−i)·w_i mod 65535', of the block that starts at `at`: two words a turn.
+// 'A = sum of w_i mod 65535, B = sum of (254−i)·w_i mod 65535', of the block that starts at `at`: two words a turn, both with the weight of the first, and
+// the sum of the second ones is taken off at the end.
 pub fn check_of(bytes: &[u8], at: usize) -> Check
     requires { ⌜ at + 512 ≤ length (now bytes) ⌝ }
     ensures { λ r. ⌜ (r .a ≡ checkA (from (now (bytes .entry)) at)) × (r .b ≡ checkB (from (now (bytes .entry)) at)) ⌝ }
 {
     let mut plain: u32 = 0;
+    let mut second: u32 = 0;
     let mut weighted: u32 = 0;
+    let mut weight: u32 = 254;
     for i in 0..127 {
         let two = quad_at(bytes, at + 4 * i);
         let low = two % 65_536;
         let high = two / 65_536;
         plain += low + high;
-        weighted += (254 - 2 * (i as u32)) * low + (253 - 2 * (i as u32)) * high;
+        second += high;
+        weighted += weight * (low + high);
+        weight -= 2;
     }
     Check {
         a: (plain % 65_535) as u64,
-        b: (weighted % 65_535) as u64,
+        b: ((weighted - second) % 65_535) as u64,
     }
 }
 

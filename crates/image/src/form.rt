@@ -115,28 +115,19 @@ fn free_from(count: usize, degree: usize, k: usize, j: usize) -> usize
     8 * (degree - (j - 8) / 8 % 16) + 8 - j % 8
 }
 
-// How many of the `left` bytes from `at` on are known to be zero: several words, a word or half a word is looked at at once.
+// How many of the `left` bytes from `at` on are known to be zero: words are looked at as long as they are zero, then half a word.
 fn zeros_from(bytes: &[u8], at: usize, left: usize) -> usize
     requires { ⌜ at + left ≤ length (now bytes) ⌝ }
     ensures { λ r. ⌜ ZeroRun (from (now (bytes .entry)) at) left r ⌝ }
 {
-    if left < 8 {
-        if 4 <= left && quad_at(bytes, at) == 0 {
-            return 4;
-        }
-        return 0;
+    let mut zeros = 0;
+    while 8 <= left - zeros && word_at(bytes, at + zeros) == 0 {
+        zeros += 8;
     }
-    if word_at(bytes, at) != 0 {
-        return 0;
+    if 4 <= left - zeros && quad_at(bytes, at + zeros) == 0 {
+        return zeros + 4;
     }
-    if left < 32
-        || word_at(bytes, at + 8) != 0
-        || word_at(bytes, at + 16) != 0
-        || word_at(bytes, at + 24) != 0
-    {
-        return 8;
-    }
-    32
+    zeros
 }
 
 // How many bytes from byte j of block k on are known to be right: none where it is wrong. From byte 8 on every fixed byte is zero.

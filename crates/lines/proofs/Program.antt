@@ -13,7 +13,9 @@ use Rattle.image.specs.Image.{coefficientsOf}
 use Rattle.blocks.specs.declared.answer.Judged.{Judged}
 use Rattle.blocks.specs.declared.answer.Judged.the-variants as J
 use Rattle.blocks.specs.Judging.{judged}
+use Rattle.dates.specs.declared.reading.Read.{Read}
 use Rattle.dates.specs.declared.reading.Reading.{Reading}
+use Rattle.dates.specs.Readings.{readOf}
 use Rattle.desk.specs.declared.asked.Asked.{Asked}
 use Rattle.desk.specs.declared.asked.Asked.the-variants as A
 use Rattle.desk.specs.Asked.{askedOf}
@@ -30,14 +32,14 @@ use Rattle.lines.proofs.Pieces.{in-pieces}
 
 -- ---- a table that was refused has no use for coefficients
 module _ (refusal : Refusal) (one other : List ℤ) where
-  asked-any : (asked : Asked) (reading : Reading) → convertAsked asked reading (J.Refused refusal) one ≡ convertAsked asked reading (J.Refused refusal) other
-  asked-any (A.Plain from to) reading = refl
-  asked-any (A.Crossing from to) reading = refl
-  asked-any (A.Refused r) reading = refl
+  asked-any : (asked : Asked) (read : Read) → convertAsked asked read (J.Refused refusal) one ≡ convertAsked asked read (J.Refused refusal) other
+  asked-any (A.Plain from to) read = refl
+  asked-any (A.Crossing from to) read = refl
+  asked-any (A.Refused r) read = refl
 
   converted-any : (from to : ℕ) (reading : Reading) → convertJudged from to reading (J.Refused refusal) one ≡ convertJudged from to reading (J.Refused refusal) other
   unfolding convertJudged
-  converted-any from to reading = asked-any (askedOf from to true) reading
+  converted-any from to reading = asked-any (askedOf from to true) (readOf reading)
 
   line-any : (line : Line) → answerTo (J.Refused refusal) one line ≡ answerTo (J.Refused refusal) other line
   line-any (Numbers from to tick) = ap (lineText to) (converted-any _ _ _)

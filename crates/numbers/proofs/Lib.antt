@@ -13,8 +13,9 @@
 --
 -- A rounding: `Rounding`. A number is the floor of x / d, or the nearest to z / d, as soon as it has the two bounds of `Floored` or `Near`: `floor-is`,
 -- `nearest-is`. Order: `floor-order`, `nearest-order`. A multiple of the divisor comes out: `floor-plus`, `nearest-plus`. A fraction is reduced:
--- `nearest-reduced`. At most a half off: `within-half`. An exact half: `nearest-half`. Sizes: `floor-small`, `nearest-small`. What moves by at most a divisor
--- is rounded to at most one apart: `nearest-moves`. For kernels: `nearest-twice` (a half by two shifts), `nearest-split` (a product split at the divisor).
+-- `nearest-reduced`; equal ones are rounded alike: `nearest-same`. At most a half off: `within-half`; less than a half is none: `nearest-none`. An exact half:
+-- `nearest-half`. Sizes: `floor-small`, `floor-rest`, `nearest-small`. What moves by at most a divisor is rounded to at most one apart: `nearest-moves`. For
+-- kernels: `nearest-cut` and `nearest-twice` (a divisor by two shifts), `floor-split` and `nearest-split` (a product split at the divisor).
 --
 -- An `i64` of the code: `Machine` (that a number fits, what a test leaves, tests that say the same, >> as a floor). The bits of a number that fits read back
 -- as it: `read-is`.

@@ -1,12 +1,12 @@
 -- Laws of the lowest place, of a test of every place, and of a list by its places. Assumes nothing.
 use mathlib.Core.Path.{_≡_, refl, sym, _∙_, ap, subst}
 use mathlib.Core.Bool.{Bool, true, false, cond}
-use mathlib.Core.List.{List}
+use mathlib.Core.List.{List, [], _∷_, map}
 use mathlib.Core.Logic.{⊎-elim}
 use Prim.Native.Nat.{ℕ, zero, suc, _+_, _≤_, _<_, zero-le}
 use native.Mathlib.Nat.{le-of-suc-le-suc, not-suc-le-zero, eq-or-lt-of-le, le-refl, lt-irrefl}
 use native.Mathlib.Omega.{arith}
-use lib.ListN.{length, getD}
+use lib.ListN.{length, getD, length-map}
 use lib.Seq.{ext-getD}
 use Rattle.numbers.specs.Lowest.{lowest, every, upTo}
 use Rattle.numbers.proofs.Flags.{never, both}
@@ -121,3 +121,13 @@ upTo-same f g (suc n) e =
     let p = e 0 (suc-le zero-le) in
     let r = upTo-same (λ i. f (suc i)) (λ i. g (suc i)) n (λ i h. e (suc i) (suc-le h)) in
     rw (p, r)
+
+-- each place made of the same place of another list
+pub map-at : {A B : Type 0} (f : A → B) (l : List A) (d : A) (e : B) (i : ℕ) → i < length l → getD (map f l) i e ≡ f (getD l i d)
+map-at f [] d e i h = absurd (not-suc-le-zero h)
+map-at f (a ∷ l) d e zero h = refl
+map-at f (a ∷ l) d e (suc i) h = map-at f l d e i (le-of-suc-le-suc h)
+
+pub is-map : {A B : Type 0} (f : A → B) (l : List A) (m : List B) (d : A) (e : B) → length m ≡ length l → ((i : ℕ) → i < length l → getD m i e ≡ f (getD l i d)) → m ≡ map f l
+is-map f l m d e long each =
+    ext-getD e m (map f l) (long ∙ sym (length-map l f)) (λ i h. let k = subst (λ (n : ℕ). i < n) long h in each i k ∙ sym (map-at f l d e i k))

@@ -1,14 +1,14 @@
 -- Floor division and nearest: the two bounds that determine each, and what follows from them. A kernel's proof shows the bounds of the number
 -- that it computes and ends by `floor-is` or `nearest-is`; nothing above this file opens the two definitions. Assumes nothing.
-use mathlib.Core.Path.{_≡_, sym}
+use mathlib.Core.Path.{_≡_, sym, ap, _∙_}
 use mathlib.Core.Logic.{⊎-elim}
 use Prim.Native.Nat.{ℕ, _+_, _*_, _/_, _≤_, _<_}
-use native.Mathlib.Nat.{div-add-mod', mod-lt, mul-comm, mul-suc, mul-le-mul-right, mul-le-mul-left, le-of-mul-le-mul-left, lt-of-mul-lt-mul-left}
+use native.Mathlib.Nat.{div-add-mod', mod-lt, mul-comm, mul-suc, mul-pos, mul-le-mul-right, mul-le-mul-left, le-of-mul-le-mul-left, lt-of-mul-lt-mul-left}
 use native.Mathlib.Omega.{arith}
-use lib.IntN.{ℤ, pos, negsuc, _+ℤ_, _-ℤ_, _*ℤ_, natAbs}
+use lib.IntN.{ℤ, pos, negsuc, _+ℤ_, _-ℤ_, _*ℤ_, natAbs, +ℤ-comm}
 use lib.Signed.{_≤ℤ_, _<ℤ_, ≤ℤ-refl}
 use Rattle.numbers.specs.Rounding.{floorDiv, nearest}
-use Rattle.numbers.proofs.Differences.{rep₂, rep₃, rep₄, lin, sizes}
+use Rattle.numbers.proofs.Differences.{rep, rep₂, rep₃, rep₄, lin, sizes}
 use Rattle.numbers.proofs.Ring.{*-assoc}
 use Rattle.numbers.proofs.Order.{≤-antisym, ≤-total, abs-*}
 use lib.Dec.{lit<}
@@ -28,6 +28,13 @@ floored (negsuc n) d h = record {
   under = simp lin (omega (arith, div-add-mod' n d, mod-lt n h, mul-comm d (n / d), mul-suc d (n / d)));
   above = simp lin (omega (arith, div-add-mod' n d, mul-comm d (n / d), mul-suc d (n / d)));
 }
+
+-- what its multiples of the divisor leave of a number
+left : (d : ℕ) (x m : ℤ) → m ≤ℤ x → x <ℤ (m +ℤ pos d) → natAbs (x -ℤ m) ≤ d
+left d = rep₂ _ (λ a b c e. simp lin (omega arith))
+
+pub floor-rest : (x : ℤ) (d : ℕ) → 0 < d → natAbs (x -ℤ pos d *ℤ floorDiv x d) ≤ d
+floor-rest x d h = let f = floored x d h in left d x (pos d *ℤ floorDiv x d) (f .under) (f .above)
 
 -- of two numbers in order the floors are in order; so a number has one floor
 next-up : (d : ℕ) (q f : ℤ) → f <ℤ q → (pos d *ℤ f +ℤ pos d) ≤ℤ (pos d *ℤ q)
@@ -127,6 +134,21 @@ nearest-reduced z d g h k =
     high : (z q : ℤ) → (pos 2 *ℤ z +ℤ pos d) <ℤ (pos 2 *ℤ (pos d *ℤ q) +ℤ pos 2 *ℤ pos d) → (pos 2 *ℤ (pos g *ℤ z) +ℤ pos (g * d)) <ℤ (pos 2 *ℤ (pos (g * d) *ℤ q) +ℤ pos 2 *ℤ pos (g * d))
     high = rep₂ _ (λ a b c e. simp lin (λ h. omega (arith, mul-le-mul-right g h)))
 
+-- equal fractions, z / b and w / d, are rounded alike
+pub nearest-same : (z w : ℤ) (b d : ℕ) → 0 < b → 0 < d → pos d *ℤ z ≡ pos b *ℤ w → nearest z b ≡ nearest w d
+nearest-same z w b d h k e =
+    sym (nearest-reduced z b d h k) ∙ ap (λ (x : ℤ). nearest x (d * b)) e ∙ ap (nearest (pos b *ℤ w)) (mul-comm d b) ∙ nearest-reduced w d b k h
+
+-- less than half of the divisor is none
+pub nearest-none : (z : ℤ) (d : ℕ) → 2 * natAbs z < d → nearest z d ≡ pos 0
+nearest-none z d h = nearest-is z (pos 0) d (omega arith) (record { under = low z h; above = high z h })
+  where
+    low : (z : ℤ) → 2 * natAbs z < d → (pos 2 *ℤ (pos d *ℤ pos 0)) ≤ℤ (pos 2 *ℤ z +ℤ pos d)
+    low = rep _ (λ a b. simp sizes (omega arith))
+
+    high : (z : ℤ) → 2 * natAbs z < d → (pos 2 *ℤ z +ℤ pos d) <ℤ (pos 2 *ℤ (pos d *ℤ pos 0) +ℤ pos 2 *ℤ pos d)
+    high = rep _ (λ a b. simp sizes (omega arith))
+
 -- ---- numbers at most a divisor apart are rounded to numbers at most one apart
 one-up : (d : ℕ) (x y : ℤ) → natAbs (x -ℤ y) ≤ d → (y ≤ℤ (x +ℤ pos d *ℤ pos 1)) × (x ≤ℤ (y +ℤ pos d *ℤ pos 1))
 one-up d x y h = (up x y h, down x y h)
@@ -166,22 +188,26 @@ floor-small (pos n) d m h k = le-of-mul-le-mul-left {k = d} (omega (arith, div-a
 floor-small (negsuc n) d m h k =
     let l : n / d < m = lt-of-mul-lt-mul-left d (omega (arith, div-add-mod' n d, mul-comm d (n / d))) in omega arith
 
--- ---- half a divisor by two floors: nearest z (2·d) is (⌊z / d⌋ + 1) / 2, rounded down
-doubled-under : (d : ℕ) (x f q : ℤ) → (pos 2 *ℤ q) ≤ℤ (f +ℤ pos 1) → (pos d *ℤ f) ≤ℤ x → (pos 2 *ℤ (pos (2 * d) *ℤ q)) ≤ℤ (pos 2 *ℤ x +ℤ pos (2 * d))
-doubled-under d = rep₃ _ (λ a b c e g i. simp lin (λ h k. omega (arith, mul-le-mul-left d h)))
+-- ---- a divisor by two floors: half of what the first leaves of it is added before the second
+cut-under : (d half : ℕ) (x f q : ℤ) → (pos (2 * half) *ℤ q) ≤ℤ (f +ℤ pos half) → (pos d *ℤ f) ≤ℤ x → (pos 2 *ℤ (pos (d * (2 * half)) *ℤ q)) ≤ℤ (pos 2 *ℤ x +ℤ pos (d * (2 * half)))
+cut-under d half = rep₃ _ (λ a b c e g i. simp lin (λ h k. omega (arith, mul-le-mul-left d h)))
 
-doubled-above : (d : ℕ) (x f q : ℤ) → (f +ℤ pos 1) <ℤ (pos 2 *ℤ q +ℤ pos 2) → x <ℤ (pos d *ℤ f +ℤ pos d) → (pos 2 *ℤ x +ℤ pos (2 * d)) <ℤ (pos 2 *ℤ (pos (2 * d) *ℤ q) +ℤ pos 2 *ℤ pos (2 * d))
-doubled-above d = rep₃ _ (λ a b c e g i. simp lin (λ h k. omega (arith, mul-le-mul-left d h)))
+cut-above : (d half : ℕ) (x f q : ℤ) → (f +ℤ pos half) <ℤ (pos (2 * half) *ℤ q +ℤ pos (2 * half)) → x <ℤ (pos d *ℤ f +ℤ pos d)
+    → (pos 2 *ℤ x +ℤ pos (d * (2 * half))) <ℤ (pos 2 *ℤ (pos (d * (2 * half)) *ℤ q) +ℤ pos 2 *ℤ pos (d * (2 * half)))
+cut-above d half = rep₃ _ (λ a b c e g i. simp lin (λ h k. omega (arith, mul-le-mul-left d h)))
+
+pub nearest-cut : (z : ℤ) (d half : ℕ) → 0 < d → 0 < half → nearest z (d * (2 * half)) ≡ floorDiv (floorDiv z d +ℤ pos half) (2 * half)
+nearest-cut z d half h k =
+    let f = floorDiv z d in
+    let q = floorDiv (f +ℤ pos half) (2 * half) in
+    let i = floored z d h in
+    let o = floored (f +ℤ pos half) (2 * half) (omega arith) in
+    nearest-is z q (d * (2 * half)) (mul-pos h (omega arith)) (record { under = cut-under d half z f q (o .under) (i .under); above = cut-above d half z f q (o .above) (i .above) })
 
 pub nearest-twice : (z : ℤ) (d : ℕ) → 0 < d → nearest z (2 * d) ≡ floorDiv (floorDiv z d +ℤ pos 1) 2
-nearest-twice z d h =
-    let f = floorDiv z d in
-    let q = floorDiv (f +ℤ pos 1) 2 in
-    let i = floored z d h in
-    let o = floored (f +ℤ pos 1) 2 (lit< tt) in
-    nearest-is z q (2 * d) (omega arith) (record { under = doubled-under d z f q (o .under) (i .under); above = doubled-above d z f q (o .above) (i .above) })
+nearest-twice z d h = ap (nearest z) (mul-comm 2 d) ∙ nearest-cut z d 1 h (lit< tt)
 
--- ---- a product u·b with b split at d = 2·half: where b = d·h + l, it is u·h + ⌊(u·l + half) / d⌋
+-- ---- a product u·b with b split at d: where b = d·h + l, its floor is u·h + ⌊u·l / d⌋, and with d = 2·half its nearest is u·h + ⌊(u·l + half) / d⌋
 split-under : (half : ℕ) (ul q uh : ℤ) → (pos (2 * half) *ℤ q) ≤ℤ (ul +ℤ pos half) → (pos 2 *ℤ (pos (2 * half) *ℤ (uh +ℤ q))) ≤ℤ (pos 2 *ℤ (pos (2 * half) *ℤ uh +ℤ ul) +ℤ pos (2 * half))
 split-under half = rep₃ _ (λ a b c d e f. simp lin (omega arith))
 
@@ -191,6 +217,12 @@ split-above half = rep₃ _ (λ a b c d e f. simp lin (omega arith))
 
 split : (d u b h : ℤ) → d *ℤ (u *ℤ h) +ℤ u *ℤ (b -ℤ d *ℤ h) ≡ u *ℤ b
 split = rep₄ _ (λ a b c d e f g h. simp lin (omega arith))
+
+pub floor-split : (u b h : ℤ) (d : ℕ) → 0 < d → u *ℤ h +ℤ floorDiv (u *ℤ (b -ℤ pos d *ℤ h)) d ≡ floorDiv (u *ℤ b) d
+floor-split u b h d k =
+    +ℤ-comm (u *ℤ h) (floorDiv (u *ℤ (b -ℤ pos d *ℤ h)) d)
+    ∙ sym (floor-plus (u *ℤ (b -ℤ pos d *ℤ h)) (u *ℤ h) d k)
+    ∙ ap (λ (x : ℤ). floorDiv x d) (+ℤ-comm (u *ℤ (b -ℤ pos d *ℤ h)) (pos d *ℤ (u *ℤ h)) ∙ split (pos d) u b h)
 
 pub nearest-split : (u b h : ℤ) (half : ℕ) → 0 < half → u *ℤ h +ℤ floorDiv (u *ℤ (b -ℤ pos (2 * half) *ℤ h) +ℤ pos half) (2 * half) ≡ nearest (u *ℤ b) (2 * half)
 nearest-split u b h half k =

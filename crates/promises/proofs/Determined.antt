@@ -177,6 +177,9 @@ pub tdb-to-tt : One ephemeris.over.OverTdb.to_tt.Reads.Learnt
 tdb-to-tt = equation
 
 -- ---- dates
+pub ranged : One dates.reading.ranged.Reads.Learnt
+ranged = equation
+
 pub tick-of : One dates.reading.tick_of.Reads.Learnt
 tick-of = equation
 

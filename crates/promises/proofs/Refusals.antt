@@ -167,7 +167,7 @@ pub table-unseen : (from to : ℕ) (reading : Reading) (bytes bytes' : List ℕ)
 unfolding convertOf convertJudged askedOf
 table-unseen from to reading bytes bytes' c = by (leb from 6) (leb to 6)
   where
-    by : (p q : Bool) → convertAsked (coded from to p q true) reading (judged bytes) (coefficientsIn bytes) ≡ convertAsked (coded from to p q true) reading (judged bytes') (coefficientsIn bytes')
+    by : (p q : Bool) → convertAsked (coded from to p q true) (readOf reading) (judged bytes) (coefficientsIn bytes) ≡ convertAsked (coded from to p q true) (readOf reading) (judged bytes') (coefficientsIn bytes')
     by true true = rw c
     by true false = refl
     by false q = refl

@@ -100,21 +100,21 @@ one-step kept cs step p single scale t e m w =
     x .reached ∙ ap Reached (came-to e m kept cs (end step) 1 (x .tick) (x .onwards))
 
 -- of a path that does not cross, over any table
-module _ (start end : Scale) (reading : Reading) where
+module _ (start end : Scale) (read : Read) where
   started-same : (walk walk' : ℤ → Answer) → ((tick : ℤ) → walk tick ≡ walk' tick) → (read : Read) → started walk read ≡ started walk' read
   started-same walk walk' same (R.Tick tick) = same tick
   started-same walk walk' same (R.Refused refusal) = refl
 
-  plainly : (judgement : Judged) (cs : List ℤ) → crosses start end ≡ false → betweenOf start end reading (heldBy judgement) cs ≡ betweenOf start end reading K.Nothing []
+  plainly : (judgement : Judged) (cs : List ℤ) → crosses start end ≡ false → betweenOf start end read (heldBy judgement) cs ≡ betweenOf start end read K.Nothing []
   unfolding betweenOf
-  plainly judgement cs e = started-same _ _ (walk-unseen (heldBy judgement) K.Nothing cs [] (path start end) e start 0) (readOf reading)
+  plainly judgement cs e = started-same _ _ (walk-unseen (heldBy judgement) K.Nothing cs [] (path start end) e start 0) read
 
 -- ---- what a conversion comes to, for every reading: a code or the table is refused, or it is a walk between the two scales over what the bytes hold
 pub data Course (from to : ℕ) (bytes : List ℕ) (answer : Reading → Answer) : Type 0 where
   from-refused : 6 < from → ((reading : Reading) → answer reading ≡ refusing 1 0) → Course from to bytes answer
   to-refused : from ≤ 6 → 6 < to → ((reading : Reading) → answer reading ≡ refusing 1 1) → Course from to bytes answer
   table-refused : crosses (named from) (named to) ≡ true → (r : Refusal) → judged bytes ≡ J.Refused r → ((reading : Reading) → answer reading ≡ Refused r) → Course from to bytes answer
-  walking : ((reading : Reading) → answer reading ≡ betweenOf (named from) (named to) reading (tableIn bytes) (coefficientsIn bytes)) → Course from to bytes answer
+  walking : ((reading : Reading) → answer reading ≡ betweenOf (named from) (named to) (readOf reading) (tableIn bytes) (coefficientsIn bytes)) → Course from to bytes answer
 
 module _ (from to : ℕ) where
   -- what is asked, by whether each code is one of 0 to 6, and by whether the path crosses
@@ -126,15 +126,15 @@ module _ (from to : ℕ) where
 
   module _ (bytes : List ℕ) where
     by-table : crosses (named from) (named to) ≡ true → (judgement : Judged) → judged bytes ≡ judgement
-        → Course from to bytes (λ reading. crossedOf (named from) (named to) reading judgement (coefficientsIn bytes))
+        → Course from to bytes (λ reading. crossedOf (named from) (named to) (readOf reading) judgement (coefficientsIn bytes))
     by-table o (J.Accepted table) j = walking (λ reading. rw j)
     by-table o (J.Refused r) j = table-refused o r j (λ reading. refl)
 
-    by-path : (over : Bool) → crosses (named from) (named to) ≡ over → Course from to bytes (λ reading. convertAsked (crossing over) reading (judged bytes) (coefficientsIn bytes))
+    by-path : (over : Bool) → crosses (named from) (named to) ≡ over → Course from to bytes (λ reading. convertAsked (crossing over) (readOf reading) (judged bytes) (coefficientsIn bytes))
     by-path true o = by-table o (judged bytes) refl
-    by-path false o = walking (λ reading. sym (plainly (named from) (named to) reading (judged bytes) (coefficientsIn bytes) o))
+    by-path false o = walking (λ reading. sym (plainly (named from) (named to) (readOf reading) (judged bytes) (coefficientsIn bytes) o))
 
-    by-codes : (p q : Bool) → leb from 6 ≡ p → leb to 6 ≡ q → Course from to bytes (λ reading. convertAsked (coded p q true) reading (judged bytes) (coefficientsIn bytes))
+    by-codes : (p q : Bool) → leb from 6 ≡ p → leb to 6 ≡ q → Course from to bytes (λ reading. convertAsked (coded p q true) (readOf reading) (judged bytes) (coefficientsIn bytes))
     by-codes true true f t = by-path (crosses (named from) (named to)) refl
     by-codes true false f t = to-refused (leb-true from 6 f) (leb-false to 6 t) (λ reading. refl)
     by-codes false q f t = from-refused (leb-false from 6 f) (λ reading. refl)
@@ -188,10 +188,10 @@ module _ (from to : ℕ) (bytes : List ℕ) (epoch : Epoch) (steps : ℕ) where
 
 -- ---- over accepted bytes every conversion between codes that name a scale is that walk
 pub between : (from to : ℕ) (reading : Reading) (bytes : List ℕ) (table : Table) → from ≤ 6 → to ≤ 6 → judged bytes ≡ J.Accepted table
-    → convertOf from to reading bytes ≡ betweenOf (named from) (named to) reading (K.Table table) (coefficientsIn bytes)
+    → convertOf from to reading bytes ≡ betweenOf (named from) (named to) (readOf reading) (K.Table table) (coefficientsIn bytes)
 between from to reading bytes table f t j = by (course from to bytes)
   where
-    by : Course from to bytes (λ reading. convertOf from to reading bytes) → convertOf from to reading bytes ≡ betweenOf (named from) (named to) reading (K.Table table) (coefficientsIn bytes)
+    by : Course from to bytes (λ reading. convertOf from to reading bytes) → convertOf from to reading bytes ≡ betweenOf (named from) (named to) (readOf reading) (K.Table table) (coefficientsIn bytes)
     by (from-refused g is) = let no : ⊥ = omega arith in absurd no
     by (to-refused g h is) = let no : ⊥ = omega arith in absurd no
     by (table-refused o r k is) = let z : _≡_ {A = ℕ} 0 1 = cc in let no : ⊥ = omega arith in absurd no

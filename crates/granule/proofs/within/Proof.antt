@@ -1,20 +1,18 @@
--- `granule::within` meets its contract: a bound of |c| is the two tests. Assumes nothing.
-use Rattle.numbers.proofs.Machine.{read-is, size-test}
+-- `granule::within` meets its contract. Assumes nothing.
+use Prim.Native.Nat.{ℕ}
 use Rattle.granule.specs.Tests.{largest}
+use Rattle.numbers.proofs.Machine.{read-is}
+use borrow.Author.Needs.{needs}
+use lib.Dec.{leb}
+use mathlib.Core.Path.{ap}
 use Rattle.granule.proofs.within.Statement.{statement}
 use Rattle.granule.proofs.within.Tie as tie
 
-returns : tie.Need-returns
-returns c =
-    let e = read-is (c .before .args .c) (c .before .fits .c) in
-    let h = rw e at (c .if1 .taken) in
-    rw e (rw h at (size-test largest (c .before .args .c)))
+size-requires : tie.Need-size-requires
+size-requires c κs = search needs
 
-returns-2 : tie.Need-returns-2
-returns-2 c =
-    let e = read-is (c .before .args .c) (c .before .fits .c) in
-    let h = rw e at (c .if1 .left) in
-    rw (e, h) (rw h at (size-test largest (c .before .args .c)))
+returns : tie.Need-returns
+returns c = ap (λ (x : ℕ). leb x largest) (rw (read-is _ (c .before .fits .c)) at (c .size .ensures))
 
 pub within-spec : {M : Type 1} → statement M
-within-spec = tie.close (tie.spec returns returns-2)
+within-spec = tie.close (tie.spec size-requires returns)

@@ -1,7 +1,7 @@
 -- `dates::reading::since_j2000` meets its contract: the tests in the page's order, and J2000 added. Assumes nothing.
 use borrow.Author.Needs.{needs}
 use borrow.Author.Tests.{not-true, not-false}
-use mathlib.Core.Path.{_≡_, sym, ap, _∙_}
+use mathlib.Core.Path.{_≡_, refl, sym, ap, _∙_}
 use mathlib.Core.Bool.{true, false}
 use lib.Dec.{lit≤}
 use lib.Ieee.Scale.{finite}
@@ -51,13 +51,16 @@ ticks-of-seconds-requires c κs = passes _ _ (finitely (c .before .before)) (wit
 
 -- J2000 is as small as any part
 constant : Within 1000000000000000 j2000Span
-constant = record { seconds = lit≤ tt; ticks = lit≤ tt }
+constant = record { units = lit≤ tt; ticks = lit≤ tt }
 
 plus-requires : tie.Need-plus-requires
 plus-requires c κs = (looser _ _ (c .ticks-of-seconds .result) (lit≤ tt) (c .ticks-of-seconds .ensures .small), looser _ _ j2000Span (lit≤ tt) constant)
 
 placed-requires : tie.Need-placed-requires
-placed-requires c κs = looser _ _ (c .plus .result) (lit≤ tt) (sum-sized _ _ (c .before .ticks-of-seconds .result) j2000Span (c .plus .result) (c .before .ticks-of-seconds .ensures .small) constant (c .plus .ensures))
+placed-requires c κs = (
+  looser _ _ (c .plus .result) (lit≤ tt) (sum-sized _ _ (c .before .ticks-of-seconds .result) j2000Span (c .plus .result) (c .before .ticks-of-seconds .ensures .small) constant (c .plus .ensures)),
+  record { perIs = refl; mostIs = refl; days = refl },
+)
 
 returns-3 : tie.Need-returns-3
 unfolding readOf

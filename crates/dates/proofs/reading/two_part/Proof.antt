@@ -1,9 +1,10 @@
 -- `dates::reading::two_part` meets its contract: both parts pass, and the origin is taken off the sum. Assumes nothing.
 use borrow.Author.Needs.{needs}
 use borrow.Author.Tests.{not-true, not-false}
-use mathlib.Core.Path.{_≡_, sym, ap, _∙_}
-use mathlib.Core.Bool.{true, false}
+use mathlib.Core.Path.{_≡_, refl, sym, ap, _∙_}
+use mathlib.Core.Bool.{true}
 use lib.Dec.{lit≤}
+use Rattle.numbers.proofs.Flags as flags
 use Rattle.dates.specs.Readings.{inRange, readOf, mostDays}
 use Rattle.dates.specs.Inner.{Within, passing}
 use Rattle.dates.proofs.Spans.{originSpan, looser, sum-sized, date-worth}
@@ -11,44 +12,27 @@ use Rattle.dates.proofs.Values.{passed, finite-then, within-then}
 use Rattle.dates.proofs.reading.two_part.Statement.{statement}
 use Rattle.dates.proofs.reading.two_part.Tie as tie
 
-passes-days-requires : tie.Need-passes-days-requires
-passes-days-requires c κs = search needs
+both-pass-requires : tie.Need-both-pass-requires
+both-pass-requires c κs = search needs
 
 no-date-requires : tie.Need-no-date-requires
-no-date-requires c κs =
-    let n : passing mostDays (c .before .before .args .first) ≡ false = sym (c .before .passes-days .ensures) ∙ not-true _ (c .if1 .taken) in
-    rw n
+no-date-requires c κs = sym (c .before .both-pass .ensures) ∙ not-true _ (c .if1 .taken)
 
 returns : tie.Need-returns
 returns c = search needs
 
-passes-days-requires-2 : tie.Need-passes-days-requires-2
-passes-days-requires-2 c κs = search needs
-
-first-passes : (c : tie.Else1) → passing mostDays (c .before .before .args .first) ≡ true
-first-passes c = sym (c .before .passes-days .ensures) ∙ not-false _ (c .if1 .left)
-
-no-date-requires-2 : tie.Need-no-date-requires-2
-no-date-requires-2 c κs =
-    let d = c .before .before in
-    let n : passing mostDays (d .before .before .args .second) ≡ false = sym (c .before .passes-days2 .ensures) ∙ not-true _ (c .if2 .taken) in
-    rw (first-passes d, n)
-
-returns-2 : tie.Need-returns-2
-returns-2 c = search needs
-
-second-passes : (c : tie.Else2) → passing mostDays (c .before .before .before .before .args .second) ≡ true
-second-passes c = sym (c .before .passes-days2 .ensures) ∙ not-false _ (c .if2 .left)
+pass : (c : tie.Else1) → (passing mostDays (c .before .before .args .first) ≡ true) × (passing mostDays (c .before .before .args .second) ≡ true)
+pass c = flags.both _ _ (sym (c .before .both-pass .ensures) ∙ not-false _ (c .if1 .left))
 
 ticks-of-days-requires : tie.Need-ticks-of-days-requires
-ticks-of-days-requires c κs = passed _ _ (first-passes (c .before .before))
+ticks-of-days-requires c κs = passed _ _ (pass c .0)
 
 ticks-of-days-requires-2 : tie.Need-ticks-of-days-requires-2
-ticks-of-days-requires-2 c κs = passed _ _ (second-passes (c .before))
+ticks-of-days-requires-2 c κs = passed _ _ (pass (c .before) .1)
 
 -- the origin is as small as any part
 constant : Within 1000000000000000 originSpan
-constant = record { seconds = lit≤ tt; ticks = lit≤ tt }
+constant = record { units = lit≤ tt; ticks = lit≤ tt }
 
 plus-requires : tie.Need-plus-requires
 plus-requires c κs = search needs
@@ -63,24 +47,25 @@ plus-requires-2 : tie.Need-plus-requires-2
 plus-requires-2 c κs = (looser _ _ (c .plus .result) (lit≤ tt) (both c), looser _ _ originSpan (lit≤ tt) constant)
 
 placed-requires : tie.Need-placed-requires
-placed-requires c κs = looser _ _ (c .plus2 .result) (lit≤ tt) (sum-sized _ _ (c .before .plus .result) originSpan (c .plus2 .result) (both (c .before)) constant (c .plus2 .ensures))
+placed-requires c κs = (
+  looser _ _ (c .plus2 .result) (lit≤ tt) (sum-sized _ _ (c .before .plus .result) originSpan (c .plus2 .result) (both (c .before)) constant (c .plus2 .ensures)),
+  record { perIs = refl; mostIs = refl; days = refl },
+)
 
-returns-3 : tie.Need-returns-3
+returns-2 : tie.Need-returns-2
 unfolding readOf
-returns-3 c =
+returns-2 c =
     let q = c .before in
     let p = q .before in
     let b = p .before in
     let a = b .before in
     let e = a .before in
-    let d = e .before .before in
-    let x = d .before .before .args .first in
-    let y = d .before .before .args .second in
-    rw (finite-then mostDays x (first-passes d), finite-then mostDays y (second-passes e), within-then mostDays x (first-passes d), within-then mostDays y (second-passes e))
+    let x = e .before .before .args .first in
+    let y = e .before .before .args .second in
+    rw (finite-then mostDays x (pass e .0), finite-then mostDays y (pass e .1), within-then mostDays x (pass e .0), within-then mostDays y (pass e .1))
     (c .placed .ensures
     ∙ ap inRange (date-worth _ _ (a .ticks-of-days .result) (b .ticks-of-days2 .result) (p .plus .result) (q .plus2 .result) (a .ticks-of-days .ensures) (b .ticks-of-days2 .ensures) (p .plus .ensures) (q .plus2 .ensures)))
 
 pub two-part-spec : {M : Type 1} → statement M
 two-part-spec =
-    tie.close
-    (tie.spec passes-days-requires no-date-requires returns passes-days-requires-2 no-date-requires-2 returns-2 ticks-of-days-requires ticks-of-days-requires-2 plus-requires plus-requires-2 placed-requires returns-3)
+    tie.close (tie.spec both-pass-requires no-date-requires returns ticks-of-days-requires ticks-of-days-requires-2 plus-requires plus-requires-2 placed-requires returns-2)

@@ -22,7 +22,7 @@ module _ (x y : ℤ) (h : natAbs x ≤ 10000000000000000) (k : natAbs y ≤ 1000
   sum-is = toZ-ofZ w64 _ added ∙ rw (back x h, back y k)
 
 add-t3 : tie.Need-add-t3
-add-t3 c = let s = c .before .before .before .before in added (s .args .a .seconds) (s .args .b .seconds) (s .pre .0 .seconds) (s .pre .1 .seconds)
+add-t3 c = let s = c .before .before .before .before in added (s .args .a .units) (s .args .b .units) (s .pre .0 .units) (s .pre .1 .units)
 
 add-t4 : tie.Need-add-t4
 add-t4 c = let s = c .before .before .before .before .before .before .before .before in added (s .args .a .ticks) (s .args .b .ticks) (s .pre .0 .ticks) (s .pre .1 .ticks)
@@ -31,7 +31,7 @@ returns : tie.Need-returns
 returns c =
     let s = c .before .before .before .before .before .before .before .before in
     record {
-      secondsAre = sum-is (s .args .a .seconds) (s .args .b .seconds) (s .pre .0 .seconds) (s .pre .1 .seconds);
+      unitsAre = sum-is (s .args .a .units) (s .args .b .units) (s .pre .0 .units) (s .pre .1 .units);
       ticksAre = sum-is (s .args .a .ticks) (s .args .b .ticks) (s .pre .0 .ticks) (s .pre .1 .ticks);
     }
 

@@ -4,12 +4,18 @@ use mathlib.Core.Path.{_≡_, sym, _∙_}
 use mir.Syntax.{w64}
 use mir.ValLaws.{toZ-ofZ}
 use Rattle.desk.specs.Batch.{entryOf}
+use Rattle.desk.proofs.Batches.{entry-read}
 use Rattle.desk.proofs.batch.is_accepted.Statement.{statement}
 use Rattle.desk.proofs.batch.is_accepted.Tie as tie
 
 -- the answer is that of the tick as it was given
-told : (c : tie.After-between) → let s = c .before in c .between .result ≡ entryOf (s .args .from) (s .args .to) (s .args .kept) (s .args .coefficients .now) (s .args .tick)
-told c = rw (toZ-ofZ w64 _ (c .before .fits .tick)) at (c .between .ensures)
+told : (c : tie.After-between) → let s = c .before .before in c .between .result ≡ entryOf (s .args .from) (s .args .to) (s .args .kept) (s .args .coefficients .now) (s .args .tick)
+told c =
+    let t = c .before in
+    rw (t .ranged .ensures, toZ-ofZ w64 _ (t .before .fits .tick)) at (c .between .ensures) ∙ entry-read _ _ _ _ _
+
+ranged-requires : tie.Need-ranged-requires
+ranged-requires c κs = search needs
 
 between-requires : tie.Need-between-requires
 between-requires c κs = search needs
@@ -27,4 +33,4 @@ returns-2 : tie.Need-returns-2
 returns-2 c = rw (sym (told (c .before .before)) ∙ c .enum-told2 .given .1)
 
 pub is-accepted-spec : {M : Type 1} → statement M
-is-accepted-spec = tie.close (tie.spec between-requires enum-told enum-told-2 returns returns-2)
+is-accepted-spec = tie.close (tie.spec ranged-requires between-requires enum-told enum-told-2 returns returns-2)

@@ -12,9 +12,10 @@ use lib.Seq.{getD-set-other}
 use mir.Syntax.{w64}
 use mir.Val.{toZ, ofZ}
 use mir.ValLaws.{toZ-ofZ}
+use Rattle.numbers.proofs.Places.{is-map}
 use Rattle.desk.specs.Inner.{tickReached}
 use Rattle.desk.specs.Walk.{stepOf}
-use Rattle.desk.proofs.Batches.{is-map, written-more}
+use Rattle.desk.proofs.Batches.{written-more}
 use Rattle.desk.proofs.batch.step_all.Statement.{statement}
 use Rattle.desk.proofs.batch.step_all.Tie as tie
 

@@ -9,7 +9,7 @@ use mir.ValLaws.{toZ-ofZ}
 use Rattle.scales.specs.Path.{steps}
 use Rattle.desk.specs.declared.batch.Batched.the-variants.{Converted}
 use Rattle.desk.specs.Batch.{triedOf, allTried, entryOf}
-use Rattle.desk.proofs.Batches.{accepted-goes-on, refused-stops, none-left}
+use Rattle.desk.proofs.Batches.{accepted-goes-on, refused-stops, none-left, entry-read}
 use Rattle.desk.proofs.batch.tried_each.Statement.{statement}
 use Rattle.desk.proofs.batch.tried_each.Tie as tie
 
@@ -29,6 +29,9 @@ mul-tick c = search needs
 shared-slice-copy-out-tick : tie.Need-shared-slice-copy-out-tick Inv-loop μ-loop
 shared-slice-copy-out-tick c = search needs
 
+ranged-requires : tie.Need-ranged-requires Inv-loop μ-loop
+ranged-requires c κs = search needs
+
 between-requires : tie.Need-between-requires Inv-loop μ-loop
 between-requires c κs = search needs
 
@@ -37,17 +40,19 @@ enum-known-refusal c = search needs
 
 module _ (c : tie.After-between Inv-loop μ-loop) where
   abbrev start : tie.Start Inv-loop μ-loop
-  start = c .before .before .before .before
+  start = c .before .before .before .before .before
 
   -- the answer is that of the entry at the loop's index
-  entry-is : c .between .result ≡ entryOf (start .args .from) (start .args .to) (start .args .kept) (start .args .coefficients .now) (getD (start .args .ticks .now) (c .before .before .before .loop .index) (pos 0))
-  entry-is = rw (toZ-ofZ w64 _ (record { sfits = c .before .tick .given })) at (c .between .ensures)
+  entry-is : c .between .result ≡ entryOf (start .args .from) (start .args .to) (start .args .kept) (start .args .coefficients .now) (getD (start .args .ticks .now) (c .before .before .before .before .loop .index) (pos 0))
+  entry-is =
+      let t = c .before in
+      rw (t .ranged .ensures, toZ-ofZ w64 _ (record { sfits = t .before .tick .given })) at (c .between .ensures) ∙ entry-read _ _ _ _ _
 
 returns : tie.Need-returns Inv-loop μ-loop
 returns c =
     let b = c .before .before .before in
-    let l = b .before .before .before in
-    sym (l .loop .inv .1 ∙ refused-stops _ _ _ _ _ (b .before .before .loop-test .taken) (sym (entry-is b) ∙ c .before .refusal .given .1))
+    let l = b .before .before .before .before in
+    sym (l .loop .inv .1 ∙ refused-stops _ _ _ _ _ (b .before .before .before .loop-test .taken) (sym (entry-is b) ∙ c .before .refusal .given .1))
 
 enum-told : tie.Need-enum-told Inv-loop μ-loop
 enum-told c = search needs
@@ -61,8 +66,8 @@ loop-less c = search needs
 loop-again : tie.Need-loop-again Inv-loop μ-loop
 loop-again c =
     let b = c .before .before in
-    let l = b .before .before .before in
-    (search needs, l .loop .inv .1 ∙ accepted-goes-on _ _ _ _ _ _ (b .before .before .loop-test .taken) (sym (entry-is b) ∙ c .enum-told .given .1))
+    let l = b .before .before .before .before in
+    (search needs, l .loop .inv .1 ∙ accepted-goes-on _ _ _ _ _ _ (b .before .before .before .loop-test .taken) (sym (entry-is b) ∙ c .enum-told .given .1))
 
 steps-between-requires : tie.Need-steps-between-requires Inv-loop μ-loop
 steps-between-requires c κs = search needs
@@ -81,6 +86,7 @@ tried-each-spec =
     loop-holds
     mul-tick
     shared-slice-copy-out-tick
+    ranged-requires
     between-requires
     enum-known-refusal
     returns

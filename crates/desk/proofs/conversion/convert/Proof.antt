@@ -1,52 +1,50 @@
 -- `desk::conversion::convert` meets its contract. Assumes nothing.
 use borrow.Author.Needs.{needs}
 use mathlib.Core.Path.{sym, _∙_}
+use mir.Syntax.{w64}
+use mir.ValLaws.{toZ-ofZ}
 use Rattle.desk.proofs.Asking.{over-bytes}
-use Rattle.desk.proofs.Opening.{nothing-held}
 use Rattle.desk.proofs.conversion.convert.Statement.{statement}
 use Rattle.desk.proofs.conversion.convert.Tie as tie
 
 asked-of-requires : tie.Need-asked-of-requires
 asked-of-requires c κs = search needs
 
-enum-known-start : tie.Need-enum-known-start
-enum-known-start c = search needs
+tick-of-requires : tie.Need-tick-of-requires
+tick-of-requires c κs = search needs
 
-slice-aggregate-between : tie.Need-slice-aggregate-between
-slice-aggregate-between c = search needs
+enum-known-tick : tie.Need-enum-known-tick
+enum-known-tick c = search needs
 
-between-requires : tie.Need-between-requires
-between-requires c κs = nothing-held _
-
-enum-known-start-2 : tie.Need-enum-known-start-2
-enum-known-start-2 c = search needs
-
-over-bytes-requires : tie.Need-over-bytes-requires
-over-bytes-requires c κs = search needs
+convert-tick-requires : tie.Need-convert-tick-requires
+convert-tick-requires c κs = search needs
 
 enum-known-refusal : tie.Need-enum-known-refusal
 enum-known-refusal c = search needs
 
+refuse-requires : tie.Need-refuse-requires
+refuse-requires c κs = search needs
+
 returns : tie.Need-returns
-returns c = c .between .ensures ∙ sym (over-bytes _ _ _ _ (sym (c .before .before .before .before .before .asked-of .ensures) ∙ c .before .before .before .start .given .1) _)
+returns c =
+    let t = c .before .before .before .before in
+    rw (toZ-ofZ w64 _ (record { sfits = c .before .known-told .given .0 .1 })) at (c .convert-tick .ensures)
+    ∙ over-bytes _ _ _ _ _ (sym (t .before .asked-of .ensures)) (sym (t .tick-of .ensures) ∙ c .before .before .tick .given .1) _
 
 returns-2 : tie.Need-returns-2
-returns-2 c = c .over-bytes .ensures ∙ sym (over-bytes _ _ _ _ (sym (c .before .before .before .before .asked-of .ensures) ∙ c .before .before .start2 .given .1) _)
-
-returns-3 : tie.Need-returns-3
-returns-3 c = sym (over-bytes _ _ _ _ (sym (c .before .before .before .asked-of .ensures) ∙ c .before .refusal .given .1) _)
+returns-2 c =
+    let t = c .before .before .before .before in
+    c .refuse .ensures ∙ over-bytes _ _ _ _ _ (sym (t .before .asked-of .ensures)) (sym (t .tick-of .ensures) ∙ c .before .before .refusal .given .1) _
 
 pub convert-spec : {M : Type 1} → statement M
 convert-spec =
     tie.close
     (tie.spec
     asked-of-requires
-    enum-known-start
-    slice-aggregate-between
-    between-requires
-    enum-known-start-2
-    over-bytes-requires
+    tick-of-requires
+    enum-known-tick
+    convert-tick-requires
     enum-known-refusal
+    refuse-requires
     returns
-    returns-2
-    returns-3)
+    returns-2)

@@ -6,6 +6,9 @@ use Rattle.desk.proofs.Opening.{nothing-held}
 use Rattle.desk.proofs.conversion.convert_judged.Statement.{statement}
 use Rattle.desk.proofs.conversion.convert_judged.Tie as tie
 
+tick-of-requires : tie.Need-tick-of-requires
+tick-of-requires c κs = search needs
+
 asked-of-requires : tie.Need-asked-of-requires
 asked-of-requires c κs = search needs
 
@@ -28,18 +31,26 @@ enum-known-refusal : tie.Need-enum-known-refusal
 enum-known-refusal c = search needs
 
 returns : tie.Need-returns
-returns c = c .between .ensures ∙ sym (by-asked _ _ _ _ (sym (c .before .before .before .before .before .asked-of .ensures) ∙ c .before .before .before .start .given .1) _ _)
+returns c =
+    let a = c .before .before .before .before .before in
+    c .between .ensures
+    ∙ by-asked _ _ _ _ _ (sym (a .asked-of .ensures) ∙ c .before .before .before .start .given .1) (sym (a .before .tick-of .ensures)) _ _
 
 returns-2 : tie.Need-returns-2
-returns-2 c = c .crossed .ensures ∙ sym (by-asked _ _ _ _ (sym (c .before .before .before .before .asked-of .ensures) ∙ c .before .before .start2 .given .1) _ _)
+returns-2 c =
+    let a = c .before .before .before .before in
+    c .crossed .ensures ∙ by-asked _ _ _ _ _ (sym (a .asked-of .ensures) ∙ c .before .before .start2 .given .1) (sym (a .before .tick-of .ensures)) _ _
 
 returns-3 : tie.Need-returns-3
-returns-3 c = sym (by-asked _ _ _ _ (sym (c .before .before .before .asked-of .ensures) ∙ c .before .refusal .given .1) _ _)
+returns-3 c =
+    let a = c .before .before .before in
+    by-asked _ _ _ _ _ (sym (a .asked-of .ensures) ∙ c .before .refusal .given .1) (sym (a .before .tick-of .ensures)) _ _
 
 pub convert-judged-spec : {M : Type 1} → statement M
 convert-judged-spec =
     tie.close
     (tie.spec
+    tick-of-requires
     asked-of-requires
     enum-known-start
     slice-aggregate-between

@@ -1,92 +1,86 @@
 -- `image::form::zeros_from` meets its contract: what makes up 0 is 0, byte by byte. Assumes nothing.
-use Prim.Native.Nat.{ℕ, _<_}
+use Prim.Native.Nat.{ℕ, _-_, _≤_, _<_, zero-le}
 use Rattle.image.proofs.Digits.{zero-word, zero-quad, zero-more}
 use Rattle.image.specs.Words.{from}
-use borrow.Author.Needs.{needs}
-use borrow.Author.Tests.{eqb-true, not-false}
-use lib.Dec.{eqb}
-use mathlib.Core.Bool.{false, not}
+use borrow.Author.Count.{below-none}
+use borrow.Author.Tests.{eqb-true}
 use mathlib.Core.Path.{_≡_, sym, _∙_}
+use native.Mathlib.Omega.{arith}
 use Rattle.image.proofs.form.zeros_from.Statement.{statement}
 use Rattle.image.proofs.form.zeros_from.Tie as tie
 
-zero-left : (x : ℕ) → not (eqb x 0) ≡ false → x ≡ 0
-zero-left x e = eqb-true x 0 (not-false (eqb x 0) e)
+abbrev Inv-loop : tie.InvT-loop
+Inv-loop bytes at left zeros₀ zeros = (zeros ≤ left) × ((u : ℕ) → u < zeros → from bytes at u ≡ 0)
 
--- past the test of the first word
-first : (c : tie.Else4) (u : ℕ) → u < 8 → from (c .before .before .before .before .args .bytes .now) (c .before .before .before .before .args .at) u ≡ 0
-first c =
-    let s = c .before .before .before .before .args in
-    zero-word (s .bytes .now) (s .at) (sym (c .before .word-at .ensures) ∙ c .if4 .left)
+abbrev μ-loop : tie.MeasureT-loop
+μ-loop bytes at left zeros₀ zeros = left - zeros
 
-quad-at-requires : tie.Need-quad-at-requires
-quad-at-requires c κs = search needs
+loop-holds : tie.Need-loop-holds Inv-loop μ-loop
+loop-holds c = (zero-le, below-none _)
 
-returns : tie.Need-returns
+sub-loop : tie.Need-sub-loop Inv-loop μ-loop
+sub-loop c = omega arith
+
+add-word-at : tie.Need-add-word-at Inv-loop μ-loop
+add-word-at c = omega arith
+
+word-at-requires : tie.Need-word-at-requires Inv-loop μ-loop
+word-at-requires c κs = omega arith
+
+add-zeros : tie.Need-add-zeros Inv-loop μ-loop
+add-zeros c = omega arith
+
+loop-less : tie.Need-loop-less Inv-loop μ-loop
+loop-less c = omega arith
+
+loop-again : tie.Need-loop-again Inv-loop μ-loop
+loop-again c =
+    let w = c .before in
+    let l = w .before .before .loop in
+    let s = w .before .before .before .before .args in
+    (omega arith, zero-more (s .bytes .now) (s .at) (l .zeros) 8 (l .inv .1) (zero-word (s .bytes .now) _ (sym (w .word-at .ensures) ∙ eqb-true _ _ (c .if1 .taken))))
+
+sub-if2 : tie.Need-sub-if2 Inv-loop μ-loop
+sub-if2 c = omega arith
+
+add-quad-at : tie.Need-add-quad-at Inv-loop μ-loop
+add-quad-at c = omega arith
+
+quad-at-requires : tie.Need-quad-at-requires Inv-loop μ-loop
+quad-at-requires c κs = omega arith
+
+add-result : tie.Need-add-result Inv-loop μ-loop
+add-result c = omega arith
+
+returns : tie.Need-returns Inv-loop μ-loop
 returns c =
     let q = c .before in
-    let s = q .before .before .before .before .args in
-    record { zero = zero-quad (s .bytes .now) (s .at) (sym (q .quad-at .ensures) ∙ eqb-true _ _ (c .if3 .taken)); inside = q .before .if2 .taken }
+    let l = q .before .before .before .loop in
+    let s = q .before .before .before .before .before .args in
+    record {
+      zero = zero-more (s .bytes .now) (s .at) (l .zeros) 4 (l .inv .1) (zero-quad (s .bytes .now) _ (sym (q .quad-at .ensures) ∙ eqb-true _ _ (c .if3 .taken)));
+      inside = omega arith;
+    }
 
-returns-2 : tie.Need-returns-2
-returns-2 c = search needs
-
-word-at-requires : tie.Need-word-at-requires
-word-at-requires c κs = search needs
-
-returns-3 : tie.Need-returns-3
-returns-3 c = search needs
-
-add-word-at : tie.Need-add-word-at
-add-word-at c = search needs
-
-word-at-requires-2 : tie.Need-word-at-requires-2
-word-at-requires-2 c κs = search needs
-
-add-word-at-2 : tie.Need-add-word-at-2
-add-word-at-2 c = search needs
-
-word-at-requires-3 : tie.Need-word-at-requires-3
-word-at-requires-3 c κs = search needs
-
-add-word-at-3 : tie.Need-add-word-at-3
-add-word-at-3 c = search needs
-
-word-at-requires-4 : tie.Need-word-at-requires-4
-word-at-requires-4 c κs = search needs
-
-returns-4 : tie.Need-returns-4
-returns-4 c = record { zero = first (c .before); inside = c .before .before .before .if1 .left }
-
-returns-5 : tie.Need-returns-5
-returns-5 c =
-    let w4 = c .before in
-    let e7 = w4 .before in
-    let w3 = e7 .before in
-    let e6 = w3 .before in
-    let w2 = e6 .before in
-    let e5 = w2 .before in
-    let e4 = e5 .before in
-    let s = e4 .before .before .before .before .args in
-    let more = zero-more (s .bytes .now) (s .at) in
-    let two = more 8 (first e4) (sym (w2 .word-at2 .ensures) ∙ zero-left _ (e6 .if6 .left)) in
-    let three = more 16 two (sym (w3 .word-at3 .ensures) ∙ zero-left _ (e7 .if7 .left)) in
-    record { zero = more 24 three (sym (w4 .word-at4 .ensures) ∙ zero-left _ (c .if8 .left)); inside = e5 .if5 .left }
+returns-2 : tie.Need-returns-2 Inv-loop μ-loop
+returns-2 c = let l = c .before .before .loop in record { zero = l .inv .1; inside = l .inv .0 }
 
 pub zeros-from-spec : {M : Type 1} → statement M
 zeros-from-spec =
     tie.close
     (tie.spec
-    quad-at-requires
-    returns
-    returns-2
-    word-at-requires
-    returns-3
+    Inv-loop
+    μ-loop
+    loop-holds
+    sub-loop
     add-word-at
-    word-at-requires-2
-    add-word-at-2
-    word-at-requires-3
-    add-word-at-3
-    word-at-requires-4
-    returns-4
-    returns-5)
+    word-at-requires
+    add-zeros
+    loop-less
+    loop-again
+    sub-if2
+    add-quad-at
+    quad-at-requires
+    add-result
+    returns
+    returns-2)
