@@ -55,6 +55,7 @@ padded f (suc n) zero h z = absurd (not-suc-le-zero h)
 padded f (suc n) (suc m) h z = alike-more (f 0) (padded (λ i. f (suc i)) n m (le-of-suc-le-suc h) (λ i l u. z (suc i) (omega arith) (omega arith)))
 
 -- the sixteen that are stored for a granule, and its own: 'those above the degree zero', where every block is formed
-pub stored-alike : (b : List ℕ) (t : Table) → ((k : ℕ) → k < blocksOf (t .count) → isFormed (t .count) (t .degree) k (block b k) ≡ true) → t .degree ≤ 15 → (g : ℕ) → g < t .count → Alike (storedOf b g) (granuleOf b (t .degree) g)
+pub stored-alike : (b : List ℕ) (t : Table) → ((k : ℕ) → k < blocksOf (t .count) → isFormed (t .count) (t .degree) k (block b k) ≡ true) → t .degree ≤ 15
+    → (g : ℕ) → g < t .count → Alike (storedOf b g) (granuleOf b (t .degree) g)
 unfolding storedOf granuleOf
 stored-alike b t forms few g h = padded (coefficientAt b g) (t .degree + 1) 16 (omega arith) (λ m l u. stored-zero b t forms g m h (omega arith) u)

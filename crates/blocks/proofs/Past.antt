@@ -90,11 +90,13 @@ module _ (b : List ℕ) (t : Table) where
     past12 h = p ∙ goes 12 (length b / 512) (isFormedIn t b) (from14 b t) t r e h
 
 -- a search that has found no block not formed
-pub formed12 : (b : List ℕ) (t : Table) (r : ℕ) → r ≡ lowest (isFormedIn t b) (length b / 512) → length b / 512 ≤ r → length b / 512 ≡ blocksOf (t .count) → (k : ℕ) → k < blocksOf (t .count) → isFormedIn t b k ≡ true
+pub formed12 : (b : List ℕ) (t : Table) (r : ℕ) → r ≡ lowest (isFormedIn t b) (length b / 512) → length b / 512 ≤ r → length b / 512 ≡ blocksOf (t .count)
+    → (k : ℕ) → k < blocksOf (t .count) → isFormedIn t b k ≡ true
 formed12 b t r e h d k l = all-pass (isFormedIn t b) (length b / 512) (subst (λ (x : ℕ). length b / 512 ≤ x) e h) k (subst (λ (x : ℕ). k < x) (sym d) l)
 
 -- the search for a block above 0 that is not formed
-pub search-for : (b : List ℕ) (t : Table) → Whole (length b) → Bounds t → length b / 512 ≡ blocksOf (t .count) → isFormed 0 0 0 (block b 0) ≡ true → Search b (t .count) (t .degree) 1 (length b / 512)
+pub search-for : (b : List ℕ) (t : Table) → Whole (length b) → Bounds t → length b / 512 ≡ blocksOf (t .count) → isFormed 0 0 0 (block b 0) ≡ true
+    → Search b (t .count) (t .degree) 1 (length b / 512)
 search-for b t w o d f =
     record {
       long = le-of-eq (sym (w .blocks));

@@ -40,7 +40,8 @@ run-is p g run v e d = by (decLt run g) v refl
     by (no h) false q = let z : run ≡ g = omega (arith, within) in rw (eq-eqb run g z, q) (stops-here p g run e (omega arith) (sym d ∙ q))
 
 -- a join, by the plain sum that the pass has kept
-join-is : (granule : ℕ → List ℤ) (x : ℤ) (g : ℕ) → ((k : ℕ) → g ≡ suc k → x ≡ plainSum (granule k)) → (eqb g 0 || isJoined x (alternatingSum (granule g))) ≡ isJoin granule g
+join-is : (granule : ℕ → List ℤ) (x : ℤ) (g : ℕ) → ((k : ℕ) → g ≡ suc k → x ≡ plainSum (granule k))
+    → (eqb g 0 || isJoined x (alternatingSum (granule g))) ≡ isJoin granule g
 unfolding isJoin
 join-is granule x zero h = refl
 join-is granule x (suc g) h = rw (ne-eqb (suc g) 0 (λ z. some z), h g refl)

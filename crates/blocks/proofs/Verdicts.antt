@@ -63,7 +63,8 @@ pub accepts : (x : Test) (xs : List Test) (s t : Table) → judgedBy (x ∷ xs) 
 unfolding judgedBy
 accepts x xs s t e = by (ltb (failsAt x) (x .places)) refl e
   where
-    by : (v : Bool) → ltb (failsAt x) (x .places) ≡ v → cond v (refusing (x .number) (failsAt x)) (judgedBy xs s) ≡ Accepted t → (x .places ≤ failsAt x) × (judgedBy xs s ≡ Accepted t)
+    by : (v : Bool) → ltb (failsAt x) (x .places) ≡ v → cond v (refusing (x .number) (failsAt x)) (judgedBy xs s) ≡ Accepted t
+        → (x .places ≤ failsAt x) × (judgedBy xs s ≡ Accepted t)
     by true q d = apart d
     by false q d = (ltb-false _ _ q, d)
 
@@ -80,7 +81,8 @@ unfolding judgedBy
 more-refused [] ys s r e = apart (sym e)
 more-refused (x ∷ xs) ys s r e = by (ltb (failsAt x) (x .places)) (more-refused xs ys s r) e
   where
-    by : (v : Bool) → (judgedBy xs s ≡ Refused r → judgedBy (xs ++ ys) s ≡ Refused r) → cond v (refusing (x .number) (failsAt x)) (judgedBy xs s) ≡ Refused r → cond v (refusing (x .number) (failsAt x)) (judgedBy (xs ++ ys) s) ≡ Refused r
+    by : (v : Bool) → (judgedBy xs s ≡ Refused r → judgedBy (xs ++ ys) s ≡ Refused r) → cond v (refusing (x .number) (failsAt x)) (judgedBy xs s) ≡ Refused r
+        → cond v (refusing (x .number) (failsAt x)) (judgedBy (xs ++ ys) s) ≡ Refused r
     by true h d = d
     by false h d = h d
 
@@ -89,6 +91,8 @@ unfolding judgedBy
 more-accepted [] ys s t e = refl
 more-accepted (x ∷ xs) ys s t e = by (ltb (failsAt x) (x .places)) (more-accepted xs ys s t) e
   where
-    by : (v : Bool) → (judgedBy xs s ≡ Accepted t → judgedBy (xs ++ ys) s ≡ judgedBy ys s) → cond v (refusing (x .number) (failsAt x)) (judgedBy xs s) ≡ Accepted t → cond v (refusing (x .number) (failsAt x)) (judgedBy (xs ++ ys) s) ≡ judgedBy ys s
+    by : (v : Bool) → (judgedBy xs s ≡ Accepted t → judgedBy (xs ++ ys) s ≡ judgedBy ys s)
+        → cond v (refusing (x .number) (failsAt x)) (judgedBy xs s) ≡ Accepted t
+        → cond v (refusing (x .number) (failsAt x)) (judgedBy (xs ++ ys) s) ≡ judgedBy ys s
     by true h d = apart d
     by false h d = h d

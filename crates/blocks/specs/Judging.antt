@@ -1,5 +1,5 @@
--- The tests of a table in their order, judging, reading and writing: 'the table 10 to 16 .., each test over all blocks before the next (12 for block 0, 13, then
--- 12 for the others)'.
+-- The tests of a table in their order, judging, reading and writing: 'the table 10 to 16 .., each test over all blocks before the next (12 for block 0, 13,
+-- then 12 for the others)'.
 use mathlib.Core.Path.{_≡_}
 use mathlib.Core.Bool.{Bool, _&&_}
 use mathlib.Core.List.{List, [], _∷_, _++_}

@@ -78,7 +78,10 @@ module _ (x : Float) (F : T (fits binary64 x)) (fine : T (finite x)) where
   -- what a value a / c says of the page's fraction
   size-of : (a c : ℕ) → HasValue x s a c → c * natAbs (numerator x) ≡ denominator x * a
   size-of a c v =
-      sym (abs-* (pos c) (numerator x)) ∙ ap natAbs (value-of x s a c v) ∙ abs-* (pos (denominator x)) (signed s a) ∙ ap (λ (z : ℕ). denominator x * z) (signed-size s a)
+      sym (abs-* (pos c) (numerator x))
+      ∙ ap natAbs (value-of x s a c v)
+      ∙ abs-* (pos (denominator x)) (signed s a)
+      ∙ ap (λ (z : ℕ). denominator x * z) (signed-size s a)
 
   lowest : fieldOf b ≡ 0 → 2 ^ 1075 * natAbs (numerator x) ≤ denominator x * (2 ^ 0 * digits)
   lowest e =

@@ -1,4 +1,5 @@
--- 01's known values of dates that are not marked P, and the edges of its rules, computed over the definitions. P12 and P13 stand in `promises`. `fin negative m e` is the double ±m·2^e. Assumes nothing.
+-- 01's known values of dates that are not marked P, and the edges of its rules, computed over the definitions. P12 and P13 stand in `promises`.
+-- `fin negative m e` is the double ±m·2^e. Assumes nothing.
 use mathlib.Core.Path.{_≡_, refl}
 use mathlib.Core.Bool.{Bool, true, false}
 use lib.IntN.{pos, negsuc, negℤ}

@@ -71,7 +71,8 @@ module _ (k : ℕ) (few : k ≤ 63) where
   left-bits (pos n) f = left-pos n
   left-bits (negsuc n) f = left-pos (18446744073709551616 - suc n) ∙ ap left (go n P C (f .sfits) whole (negsuc n) refl) ∙ left-plus (negsuc n) (pos (2 * C))
     where
-      go : (n p c : ℕ) → n < 9223372036854775808 → p * c ≡ 9223372036854775808 → (z : ℤ) → z ≡ negsuc n → pos (18446744073709551616 - suc n) ≡ z +ℤ pos p *ℤ pos (2 * c)
+      go : (n p c : ℕ) → n < 9223372036854775808 → p * c ≡ 9223372036854775808 → (z : ℤ) → z ≡ negsuc n
+          → pos (18446744073709551616 - suc n) ≡ z +ℤ pos p *ℤ pos (2 * c)
       go n p c h e = rep _ (λ a b. simp lin (omega arith))
 
   pub last-digits : (z : ℤ) → SFits w64 z → toZ w64 (bitAnd (ofZ w64 z * C % 18446744073709551616) 9223372036854775807) ≡ pos C *ℤ left z
@@ -182,7 +183,9 @@ module _ (odd : ℕ) (b : ℤ) (by : ℕ) (f : SFits w64 b) (c : Cut odd by) whe
   raised-small = size-+ (product odd b) (pos (half by)) product-small half-small
 
   cut-small : natAbs (floorDiv (raised odd b by) (2 ^ by)) ≤ 6917529027641081856
-  cut-small = let s = raised-small in floor-small (raised odd b by) (2 ^ by) 6917529027641081856 (pow-pos by) (omega (arith, mul-le-mul-right 6917529027641081856 (pow-pos by)))
+  cut-small =
+      let s = raised-small in
+      floor-small (raised odd b by) (2 ^ by) 6917529027641081856 (pow-pos by) (omega (arith, mul-le-mul-right 6917529027641081856 (pow-pos by)))
 
   -- each of them fits, so that what the code makes of it is itself
   high-is : read (highOf b) ≡ high b

@@ -136,11 +136,13 @@ module _ (tick : ℤ) (v : isValid tick ≡ true) where
   back = rw (first-finite, second-finite, first-within, second-within, sum, v)
 
   -- 'the first part is .. exact': its value is the day's n + 1/2
-  pub first-exact : (finite (firstPart tick) ≡ true) × (pos 2 *ℤ numerator (firstPart tick) ≡ (pos 2 *ℤ dayOf tick +ℤ pos 1) *ℤ pos (denominator (firstPart tick)))
+  pub first-exact : (finite (firstPart tick) ≡ true)
+      × (pos 2 *ℤ numerator (firstPart tick) ≡ (pos 2 *ℤ dayOf tick +ℤ pos 1) *ℤ pos (denominator (firstPart tick)))
   first-exact = (first-finite, value-of (firstPart tick) false n 2 first-value ∙ *ℤ-comm (pos (denominator (firstPart tick))) (pos n) ∙ ap (λ (z : ℤ). z *ℤ pos (denominator (firstPart tick))) n-is)
 
   -- the second part lies in [0, 1)
-  pub second-in-day : (finite (secondPart tick) ≡ true) × ((pos 0 ≤ℤ numerator (secondPart tick)) × (numerator (secondPart tick) <ℤ pos (denominator (secondPart tick))))
+  pub second-in-day : (finite (secondPart tick) ≡ true)
+      × ((pos 0 ≤ℤ numerator (secondPart tick)) × (numerator (secondPart tick) <ℤ pos (denominator (secondPart tick))))
   second-in-day = (second-finite, below-one (secondPart tick) (grid binary64 r dayTicks) (2 ^ 1074) (pow-pos 1074) second-value (part-under r r-small))
 
 -- 'the last Julian date ending in .5 not after it': the day is at or before the tick, and the next one after it

@@ -68,7 +68,8 @@ sum-sized n m a b sum p q e = record {
 pub looser : (n m : ℕ) (span : Span) → n ≤ m → Within n span → Within m span
 looser n m span h w = record { units = le-trans (w .units) h; ticks = le-trans (w .ticks) h }
 
-pub worth-plus : (per : ℕ) (a b sum : Span) → Spanned sum (a .units +ℤ b .units) (a .ticks +ℤ b .ticks) → worth (pos per) sum ≡ worth (pos per) a +ℤ worth (pos per) b
+pub worth-plus : (per : ℕ) (a b sum : Span) → Spanned sum (a .units +ℤ b .units) (a .ticks +ℤ b .ticks)
+    → worth (pos per) sum ≡ worth (pos per) a +ℤ worth (pos per) b
 worth-plus per a b sum e = rw (e .unitsAre, e .ticksAre) (go (a .units) (a .ticks) (b .units) (b .ticks))
   where
     go : (s t u v : ℤ) → pos per *ℤ (s +ℤ u) +ℤ (t +ℤ v) ≡ pos per *ℤ s +ℤ t +ℤ (pos per *ℤ u +ℤ v)
@@ -82,7 +83,8 @@ abbrev pub originSpan : Span
 originSpan = record { units = negsuc 2443143; ticks = negsuc 43232183999999 }
 
 -- ---- the two kinds of doubles, from the leaves' spans to their ticks
-pub seconds-worth : (x : Float) (a sum : Span) → Rounded secondTicks x a → Spanned sum (a .units +ℤ j2000Span .units) (a .ticks +ℤ j2000Span .ticks) → worth (pos secondTicks) sum ≡ tickOfSeconds x
+pub seconds-worth : (x : Float) (a sum : Span) → Rounded secondTicks x a → Spanned sum (a .units +ℤ j2000Span .units) (a .ticks +ℤ j2000Span .ticks)
+    → worth (pos secondTicks) sum ≡ tickOfSeconds x
 unfolding tickOfSeconds
 seconds-worth x a sum r e = worth-plus secondTicks a j2000Span sum e ∙ ap (λ (z : ℤ). z +ℤ j2000) (sym (r .is))
 

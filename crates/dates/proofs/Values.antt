@@ -121,7 +121,8 @@ module _ (x : Float) (digits : ℤ) (e : ℕ) (t : Apart x digits e) where
         go e h = omega arith
 
     -- less than half a tick is none
-    pub no-tick : (odd twos : ℕ) (span : Span) → Factored odd twos → 103 < 1075 - e → span .units ≡ pos 0 → span .ticks ≡ pos 0 → Rounded (odd * 2 ^ twos) x span
+    pub no-tick : (odd twos : ℕ) (span : Span) → Factored odd twos → 103 < 1075 - e → span .units ≡ pos 0 → span .ticks ≡ pos 0
+        → Rounded (odd * 2 ^ twos) x span
     unfolding nearestTick
     no-tick odd twos span f g u r = record {
       is = nearest-none (pos n *ℤ numerator x) D (subst (λ (z : ℕ). 2 * z < D) (sym (abs-* (pos n) (numerator x))) few) ∙ rw (u, r) (none n);
@@ -258,7 +259,8 @@ pub wider : (a b : ℕ) (x : Float) → a ≤ b → Passed a x → Passed b x
 unfolding beyond
 wider a b nan l h = record { finitely = h .finitely; within = tt }
 wider a b (inf s) l h = absurd (h .within)
-wider a b (fin s m e) l h = record { finitely = tt; within = le→nltb (b * down e) (m * up e) (le-trans (nltb→le (a * down e) (m * up e) (h .within)) (mul-le-mul-right (down e) l)) }
+wider a b (fin s m e) l h =
+    record { finitely = tt; within = le→nltb (b * down e) (m * up e) (le-trans (nltb→le (a * down e) (m * up e) (h .within)) (mul-le-mul-right (down e) l)) }
 
 -- what the two tests leave
 pub passes : (most : ℕ) (x : Float) → finite x ≡ true → beyond most x ≡ false → Passed most x

@@ -55,15 +55,20 @@ ToldFirst entry ticks index refusal told = (place : ℕ) × (told ≡ index + pl
 
 module _ (entry : ℤ → Answer) (tick : ℤ) (more : List ℤ) where
   -- one accepted entry before the others
-  accepted-first : (epoch : Epoch) (n bound : ℕ) → entry tick ≡ Answer.Converted epoch n → AllAccepted entry more bound → AllAccepted entry (tick ∷ more) (suc bound)
+  accepted-first : (epoch : Epoch) (n bound : ℕ) → entry tick ≡ Answer.Converted epoch n → AllAccepted entry more bound
+      → AllAccepted entry (tick ∷ more) (suc bound)
   accepted-first epoch n bound e rest zero h = (epoch, n, e)
   accepted-first epoch n bound e rest (suc i) h = rest i (le-of-suc-le-suc h)
 
-  accepted-cons : (answer : Answer) (index many : ℕ) {n : ℕ} (later : Batched) → entry tick ≡ answer → (later ≡ Converted n → (n ≡ many) × AllAccepted entry more (length more)) → earlier answer index later ≡ Converted n → (n ≡ many) × AllAccepted entry (tick ∷ more) (suc (length more))
+  accepted-cons : (answer : Answer) (index many : ℕ) {n : ℕ} (later : Batched) → entry tick ≡ answer
+      → (later ≡ Converted n → (n ≡ many) × AllAccepted entry more (length more)) → earlier answer index later ≡ Converted n
+      → (n ≡ many) × AllAccepted entry (tick ∷ more) (suc (length more))
   accepted-cons (Answer.Converted epoch m) index many later d rest e = let r = rest e in (r .0, accepted-first epoch m (length more) d (r .1))
   accepted-cons (Answer.Refused refusal) index many later d rest e = never-both refl e
 
-  refused-cons : (answer : Answer) (index : ℕ) {refusal : Refusal} {told : ℕ} (later : Batched) → entry tick ≡ answer → (later ≡ Refused refusal told → ToldFirst entry more (suc index) refusal told) → earlier answer index later ≡ Refused refusal told → ToldFirst entry (tick ∷ more) index refusal told
+  refused-cons : (answer : Answer) (index : ℕ) {refusal : Refusal} {told : ℕ} (later : Batched) → entry tick ≡ answer
+      → (later ≡ Refused refusal told → ToldFirst entry more (suc index) refusal told) → earlier answer index later ≡ Refused refusal told
+      → ToldFirst entry (tick ∷ more) index refusal told
   refused-cons (Answer.Converted epoch m) index later d rest e =
       let r = rest e in
       let f = r .2 in
@@ -83,14 +88,16 @@ module _ (entry : ℤ → Answer) (many : ℕ) where
   tried-accepted index (tick ∷ more) e = accepted-cons entry tick more (entry tick) index many _ refl (tried-accepted (suc index) more) e
 
   -- 'the earliest refusal is the batch's, with its index'
-  pub tried-refused : (index : ℕ) (ticks : List ℤ) {refusal : Refusal} {told : ℕ} → triedOf entry many index ticks ≡ Refused refusal told → ToldFirst entry ticks index refusal told
+  pub tried-refused : (index : ℕ) (ticks : List ℤ) {refusal : Refusal} {told : ℕ} → triedOf entry many index ticks ≡ Refused refusal told
+      → ToldFirst entry ticks index refusal told
   unfolding triedOf
   tried-refused index [] e = never-both e refl
   tried-refused index (tick ∷ more) e = refused-cons entry tick more (entry tick) index _ refl (tried-refused (suc index) more) e
 
 -- ---- a batch, by the conversions of its entries
 -- where there is an entry, trying what is asked is trying the entries' conversions, also where 1 or the table is refused
-asked-tried : (asked : Asked) (tick : ℤ) (more : List ℤ) (table : Judged) (coefficients : List ℤ) → batchAsked asked (tick ∷ more) table coefficients ≡ triedOf (λ t. convertAsked asked (readOf (Ticks t)) table coefficients) (stepsAsked asked) 0 (tick ∷ more)
+asked-tried : (asked : Asked) (tick : ℤ) (more : List ℤ) (table : Judged) (coefficients : List ℤ) → batchAsked asked (tick ∷ more) table coefficients
+    ≡ triedOf (λ t. convertAsked asked (readOf (Ticks t)) table coefficients) (stepsAsked asked) 0 (tick ∷ more)
 unfolding triedOf
 asked-tried (A.Plain from to) tick more table coefficients = refl
 asked-tried (A.Crossing from to) tick more (J.Accepted numbers) coefficients = refl
@@ -98,14 +105,17 @@ asked-tried (A.Crossing from to) tick more (J.Refused refusal) coefficients = re
 asked-tried (A.Refused refusal) tick more table coefficients = refl
 
 -- and an accepted batch answers the steps of the path asked for, also where it is empty
-asked-answers : (asked : Asked) (ticks : List ℤ) (table : Judged) (coefficients : List ℤ) {n : ℕ} → batchAsked asked ticks table coefficients ≡ Converted n → n ≡ stepsAsked asked
+asked-answers : (asked : Asked) (ticks : List ℤ) (table : Judged) (coefficients : List ℤ) {n : ℕ} → batchAsked asked ticks table coefficients ≡ Converted n
+    → n ≡ stepsAsked asked
 asked-answers (A.Plain from to) ticks table coefficients e = tried-accepted _ _ 0 ticks e .0
 asked-answers (A.Crossing from to) ticks (J.Accepted numbers) coefficients e = tried-accepted _ _ 0 ticks e .0
 asked-answers (A.Crossing from to) ticks (J.Refused refusal) coefficients e = never-both refl e
 asked-answers (A.Refused refusal) ticks table coefficients e = never-both refl e
 
 -- an empty batch is refused where every conversion is, with the same refusal
-asked-empty : (asked : Asked) (table : Judged) (coefficients : List ℤ) {refusal : Refusal} {index : ℕ} → batchAsked asked [] table coefficients ≡ Refused refusal index → (index ≡ 0) × ((tick : ℤ) → convertAsked asked (readOf (Ticks tick)) table coefficients ≡ Answer.Refused refusal)
+asked-empty : (asked : Asked) (table : Judged) (coefficients : List ℤ) {refusal : Refusal} {index : ℕ}
+    → batchAsked asked [] table coefficients ≡ Refused refusal index
+    → (index ≡ 0) × ((tick : ℤ) → convertAsked asked (readOf (Ticks tick)) table coefficients ≡ Answer.Refused refusal)
 unfolding triedOf
 asked-empty (A.Plain from to) table coefficients e = never-both e refl
 asked-empty (A.Crossing from to) (J.Accepted numbers) coefficients e = never-both e refl
@@ -123,19 +133,22 @@ module _ (from to : ℕ) (bytes : List ℕ) where
   conversion tick = convertOf from to (Ticks tick) bytes
 
   -- where there is an entry, a batch tries the conversions of its entries
-  pub batch-tried : (ticks : List ℤ) (many : ℕ) → length ticks ≡ many → 0 < length ticks → batchOf from to ticks many bytes ≡ triedOf conversion (stepsAsked (askedOf from to true)) 0 ticks
+  pub batch-tried : (ticks : List ℤ) (many : ℕ) → length ticks ≡ many → 0 < length ticks
+      → batchOf from to ticks many bytes ≡ triedOf conversion (stepsAsked (askedOf from to true)) 0 ticks
   unfolding batchOf convertOf convertJudged
   batch-tried [] many long some = absurd (not-suc-le-zero some)
   batch-tried (tick ∷ more) many long some = rw (eq-eqb _ _ long) (asked-tried (askedOf from to true) tick more (judged bytes) (coefficientsIn bytes))
 
   -- 'the earliest refusal is the batch's, with its index': before it every conversion is accepted, at it the conversion is refused the same
-  pub batch-refused : (ticks : List ℤ) (many : ℕ) {refusal : Refusal} {index : ℕ} → length ticks ≡ many → 0 < length ticks → batchOf from to ticks many bytes ≡ Refused refusal index → FirstRefused conversion ticks refusal index
+  pub batch-refused : (ticks : List ℤ) (many : ℕ) {refusal : Refusal} {index : ℕ} → length ticks ≡ many → 0 < length ticks
+      → batchOf from to ticks many bytes ≡ Refused refusal index → FirstRefused conversion ticks refusal index
   batch-refused ticks many {refusal} long some e =
       let told = tried-refused conversion _ 0 ticks (sym (batch-tried ticks many long some) ∙ e) in
       subst (FirstRefused conversion ticks refusal) (sym (told .1 ∙ zero-add (told .0))) (told .2)
 
   -- 'An empty batch still gets checks 1, 8 and the table', with index 0
-  pub empty-refused : {refusal : Refusal} {index : ℕ} → batchOf from to [] 0 bytes ≡ Refused refusal index → (index ≡ 0) × ((tick : ℤ) → conversion tick ≡ Answer.Refused refusal)
+  pub empty-refused : {refusal : Refusal} {index : ℕ} → batchOf from to [] 0 bytes ≡ Refused refusal index
+      → (index ≡ 0) × ((tick : ℤ) → conversion tick ≡ Answer.Refused refusal)
   unfolding batchOf convertOf convertJudged
   empty-refused e = asked-empty (askedOf from to true) (judged bytes) (coefficientsIn bytes) e
 
@@ -150,7 +163,9 @@ module _ (from to : ℕ) (bytes : List ℕ) where
 
     asked-steps-told : n ≡ stepsAsked (askedOf from to true)
     unfolding batchOf
-    asked-steps-told = asked-answers (askedOf from to (eqb (length ticks) many)) ticks (judged bytes) (coefficientsIn bytes) accepted ∙ ap stepsAsked (sym (asked-alone from to _ _ refl asked-no-refusal))
+    asked-steps-told =
+        asked-answers (askedOf from to (eqb (length ticks) many)) ticks (judged bytes) (coefficientsIn bytes) accepted
+        ∙ ap stepsAsked (sym (asked-alone from to _ _ refl asked-no-refusal))
 
     -- 'An accepted batch answers the path's steps'
     pub accepted-steps : (start end : Scale) → scaleOf from 0 ≡ N.Scale start → scaleOf to 1 ≡ N.Scale end → n ≡ steps start end
@@ -166,17 +181,20 @@ module _ (from to : ℕ) (bytes : List ℕ) where
         (told .0, told .2 ∙ ap (Answer.Converted (told .0)) same)
 
   -- and the second list holds their ticks, place by place
-  pub accepted-ticks : (ticks answers : List ℤ) {n : ℕ} → batchOf from to ticks (length answers) bytes ≡ Converted n → (i : ℕ) → i < length ticks → getD (batchInto from to ticks answers bytes) i (pos 0) ≡ tickOf (conversion (getD ticks i (pos 0)))
+  pub accepted-ticks : (ticks answers : List ℤ) {n : ℕ} → batchOf from to ticks (length answers) bytes ≡ Converted n → (i : ℕ) → i < length ticks
+      → getD (batchInto from to ticks answers bytes) i (pos 0) ≡ tickOf (conversion (getD ticks i (pos 0)))
   unfolding batchInto
   accepted-ticks ticks answers e i h = rw e (map-at (λ tick. tickOf (conversion tick)) ticks (pos 0) (pos 0) i h)
 
   -- 'nothing is written'
-  pub refused-untouched : (ticks answers : List ℤ) {refusal : Refusal} {index : ℕ} → batchOf from to ticks (length answers) bytes ≡ Refused refusal index → batchInto from to ticks answers bytes ≡ answers
+  pub refused-untouched : (ticks answers : List ℤ) {refusal : Refusal} {index : ℕ} → batchOf from to ticks (length answers) bytes ≡ Refused refusal index
+      → batchInto from to ticks answers bytes ≡ answers
   unfolding batchInto
   refused-untouched ticks answers e = rw e
 
   -- where every conversion is accepted, so is the batch
-  pub all-accepted : (ticks : List ℤ) (many : ℕ) → length ticks ≡ many → 0 < length ticks → AllAccepted conversion ticks (length ticks) → batchOf from to ticks many bytes ≡ Converted (stepsAsked (askedOf from to true))
+  pub all-accepted : (ticks : List ℤ) (many : ℕ) → length ticks ≡ many → 0 < length ticks → AllAccepted conversion ticks (length ticks)
+      → batchOf from to ticks many bytes ≡ Converted (stepsAsked (askedOf from to true))
   all-accepted ticks many long some all = go (batchOf from to ticks many bytes) refl
     where
       go : (answer : Batched) → batchOf from to ticks many bytes ≡ answer → batchOf from to ticks many bytes ≡ Converted (stepsAsked (askedOf from to true))
@@ -186,7 +204,8 @@ module _ (from to : ℕ) (bytes : List ℕ) where
           not-both (first .refuses) (all index (first .inside) .2)
 
   -- '8: lent lengths don't fit', after 1
-  pub unfit-refused : (ticks : List ℤ) (many : ℕ) (start end : Scale) → scaleOf from 0 ≡ N.Scale start → scaleOf to 1 ≡ N.Scale end → (length ticks ≡ many → ⊥) → batchOf from to ticks many bytes ≡ Refused (record { number = 8; place = 0 }) 0
+  pub unfit-refused : (ticks : List ℤ) (many : ℕ) (start end : Scale) → scaleOf from 0 ≡ N.Scale start → scaleOf to 1 ≡ N.Scale end → (length ticks ≡ many → ⊥)
+      → batchOf from to ticks many bytes ≡ Refused (record { number = 8; place = 0 }) 0
   unfolding batchOf askedOf
   unfit-refused ticks many start end begins ends unfit = rw (ne-eqb _ _ unfit, begins, ends)
 
@@ -197,6 +216,7 @@ module _ (from to : ℕ) (bytes : List ℕ) where
       batch-tried (tick ∷ []) 1 refl (omega arith)
       ∙ one (conversion tick) (λ epoch n d. asked-steps (askedOf from to true) (readOf (Ticks tick)) (judged bytes) (coefficientsIn bytes) d)
     where
-      one : (answer : Answer) {many : ℕ} → ((epoch : Epoch) (n : ℕ) → answer ≡ Answer.Converted epoch n → n ≡ many) → earlier answer 0 (Converted many) ≡ alone answer
+      one : (answer : Answer) {many : ℕ} → ((epoch : Epoch) (n : ℕ) → answer ≡ Answer.Converted epoch n → n ≡ many)
+          → earlier answer 0 (Converted many) ≡ alone answer
       one (Answer.Converted epoch n) h = ap Converted (sym (h epoch n refl))
       one (Answer.Refused refusal) h = refl

@@ -1,5 +1,5 @@
--- The laws of a batch, in the order of its functions: how the entries that are left are tried, which list their ticks are, what is kept of a table, what is asked,
--- and the whole rule. Assumes nothing.
+-- The laws of a batch, in the order of its functions: how the entries that are left are tried, the ends of a list, what is written, what is kept of a table, what
+-- is asked, and the whole rule. Assumes nothing.
 use mathlib.Core.Path.{_≡_, refl, sym, _∙_, ap}
 use mathlib.Core.Bool.{Bool, true, false}
 use mathlib.Core.List.{List}
@@ -38,14 +38,17 @@ use Rattle.desk.proofs.Opening.{coefficients-are}
 
 -- ---- the entries that are left, from an index on
 module _ (entry : ℤ → Answer) (steps : ℕ) (ticks : List ℤ) (index : ℕ) where
-  next-tried : index < length ticks → triedOf entry steps index (drop index ticks) ≡ earlier (entry (getD ticks index (pos 0))) index (triedOf entry steps (index + 1) (drop (index + 1) ticks))
+  next-tried : index < length ticks → triedOf entry steps index (drop index ticks)
+      ≡ earlier (entry (getD ticks index (pos 0))) index (triedOf entry steps (index + 1) (drop (index + 1) ticks))
   unfolding triedOf
   next-tried h = rw (drop-cons ticks index (pos 0) h, add-one)
 
-  pub accepted-goes-on : (epoch : Epoch) (many : ℕ) → index < length ticks → entry (getD ticks index (pos 0)) ≡ Answer.Converted epoch many → triedOf entry steps index (drop index ticks) ≡ triedOf entry steps (index + 1) (drop (index + 1) ticks)
+  pub accepted-goes-on : (epoch : Epoch) (many : ℕ) → index < length ticks → entry (getD ticks index (pos 0)) ≡ Answer.Converted epoch many
+      → triedOf entry steps index (drop index ticks) ≡ triedOf entry steps (index + 1) (drop (index + 1) ticks)
   accepted-goes-on epoch many h e = next-tried h ∙ rw e
 
-  pub refused-stops : (refusal : Refusal) → index < length ticks → entry (getD ticks index (pos 0)) ≡ Answer.Refused refusal → triedOf entry steps index (drop index ticks) ≡ Refused refusal index
+  pub refused-stops : (refusal : Refusal) → index < length ticks → entry (getD ticks index (pos 0)) ≡ Answer.Refused refusal
+      → triedOf entry steps index (drop index ticks) ≡ Refused refusal index
   refused-stops refusal h e = next-tried h ∙ rw e
 
   pub none-left : length ticks ≤ index → triedOf entry steps index (drop index ticks) ≡ Converted steps
@@ -54,7 +57,8 @@ module _ (entry : ℤ → Answer) (steps : ℕ) (ticks : List ℤ) (index : ℕ)
 
 -- ---- the ends of a list
 module _ (earliest latest : ℤ) (ticks : List ℤ) (index : ℕ) where
-  pub wider : index < length ticks → let tick = getD ticks index (pos 0) in endsOf earliest latest (drop index ticks) ≡ endsOf (soonerOf earliest tick) (laterOf latest tick) (drop (index + 1) ticks)
+  pub wider : index < length ticks → let tick =
+      getD ticks index (pos 0) in endsOf earliest latest (drop index ticks) ≡ endsOf (soonerOf earliest tick) (laterOf latest tick) (drop (index + 1) ticks)
   unfolding endsOf
   wider h = rw (drop-cons ticks index (pos 0) h, add-one)
 
@@ -63,7 +67,8 @@ module _ (earliest latest : ℤ) (ticks : List ℤ) (index : ℕ) where
   no-wider h = rw (drop-of-length-le ticks h)
 
 -- ---- what is written so far, and one more
-pub written-more : (l : List ℤ) (i : ℕ) (x : ℤ) (of : ℕ → ℤ) → i < length l → ((j : ℕ) → j < i → getD l j (pos 0) ≡ of j) → x ≡ of i → (j : ℕ) → j < i + 1 → getD (set l i x) j (pos 0) ≡ of j
+pub written-more : (l : List ℤ) (i : ℕ) (x : ℤ) (of : ℕ → ℤ) → i < length l → ((j : ℕ) → j < i → getD l j (pos 0) ≡ of j) → x ≡ of i → (j : ℕ) → j < i + 1
+    → getD (set l i x) j (pos 0) ≡ of j
 written-more l i x of h before here = below-more (λ j. getD (set l i x) j (pos 0) ≡ of j) i
     (λ j k. getD-set-other l i j x (pos 0) (not-same k) ∙ before j k)
     (getD-set-same l i x (pos 0) h ∙ here)
@@ -73,12 +78,14 @@ module _ {answer : Batched} {entry : ℤ → Answer} {ticks answers : List ℤ} 
   pub filled-not : (refusal : Refusal) (index : ℕ) → answer ≡ Refused refusal index → Filled answer entry ticks answers answers (Refused refusal index)
   filled-not refusal index e = record { is = sym e; list = rw e }
 
-  pub filled-all : (steps : ℕ) {answers' : List ℤ} → answer ≡ Converted steps → answers' ≡ ticksBy entry ticks → Filled answer entry ticks answers answers' (Converted steps)
+  pub filled-all : (steps : ℕ) {answers' : List ℤ} → answer ≡ Converted steps → answers' ≡ ticksBy entry ticks
+      → Filled answer entry ticks answers answers' (Converted steps)
   filled-all steps e d = record { is = sym e; list = rw e d }
 
 -- ---- over the table that the bytes hold
 module _ (from to : Scale) (ticks answers : List ℤ) (bytes : List ℕ) where
-  pub filled-taken : (table : Table) {answers' : List ℤ} {r : Batched} → judged bytes ≡ J.Accepted table → FilledTaken from to ticks answers answers' bytes table r → FilledCrossing from to ticks answers answers' bytes r
+  pub filled-taken : (table : Table) {answers' : List ℤ} {r : Batched} → judged bytes ≡ J.Accepted table
+      → FilledTaken from to ticks answers answers' bytes table r → FilledCrossing from to ticks answers answers' bytes r
   filled-taken table opened filled = rw (coefficients-are bytes table opened, opened) filled
 
   pub filled-judged : (refusal : Refusal) → judged bytes ≡ J.Refused refusal → FilledCrossing from to ticks answers answers bytes (Refused refusal 0)
@@ -111,17 +118,20 @@ pub crossing-sound : (start end : Scale) (refusal : Refusal) → A.Crossing star
 crossing-sound start end refusal e = let z : _≡_ {A = ℕ} 0 1 = cc in omega arith
 
 -- ---- an entry is read as the tick that it is
-pub entry-read : (from to : Scale) (kept : Kept) (coefficients : List ℤ) (tick : ℤ) → betweenOf from to (inRange tick) kept coefficients ≡ entryOf from to kept coefficients tick
+pub entry-read : (from to : Scale) (kept : Kept) (coefficients : List ℤ) (tick : ℤ)
+    → betweenOf from to (inRange tick) kept coefficients ≡ entryOf from to kept coefficients tick
 unfolding readOf
 entry-read from to kept coefficients tick = refl
 
 -- ---- the whole rule
 module _ (from to : ℕ) (ticks answers : List ℤ) (bytes : List ℕ) where
-  pub has-refused : (refusal : Refusal) → askedOf from to (eqb (length ticks) (length answers)) ≡ A.Refused refusal → HasConverted from to ticks answers answers bytes (Refused refusal 0)
+  pub has-refused : (refusal : Refusal) → askedOf from to (eqb (length ticks) (length answers)) ≡ A.Refused refusal
+      → HasConverted from to ticks answers answers bytes (Refused refusal 0)
   unfolding batchOf batchInto
   has-refused refusal e = record { answer = rw e; list = rw e }
 
-  pub has-converted : (asked : Asked) {answers' : List ℤ} {r : Batched} → askedOf from to (eqb (length ticks) (length answers)) ≡ asked → askedOf from to true ≡ asked
+  pub has-converted : (asked : Asked) {answers' : List ℤ} {r : Batched} → askedOf from to (eqb (length ticks) (length answers)) ≡ asked
+      → askedOf from to true ≡ asked
       → Filled (batchAsked asked ticks (judged bytes) (coefficientsIn bytes)) (λ tick. convertAsked asked (readOf (Ticks tick)) (judged bytes) (coefficientsIn bytes)) ticks answers answers' r
       → HasConverted from to ticks answers answers' bytes r
   unfolding batchOf batchInto convertOf convertJudged

@@ -1,5 +1,5 @@
--- Accepted ticks form an interval: between two ticks of a scale that are both converted to another there is none that is refused. By induction over the path, from
--- the law of one step. Assumes nothing.
+-- Accepted ticks form an interval: between two ticks of a scale that are both converted to another there is none that is refused. By induction over the path,
+-- from the law of one step. Assumes nothing.
 use mathlib.Core.Path.{_≡_, refl, _∙_, ap}
 use mathlib.Core.Bool.{Bool, true, false, not, cond}
 use mathlib.Core.List.{List, [], _∷_}
@@ -37,7 +37,8 @@ accepted-told (Refused refusal) e = never e
 
 -- ---- along a walk
 module _ (kept : Kept) (cs : List ℤ) where
-  walk-within : Held kept cs → (way : List Step) (scale : Scale) (done : ℕ) (t u v : ℤ) → Accepted (walkOf kept cs way scale done t) → Accepted (walkOf kept cs way scale done v) → t ≤ℤ u → u ≤ℤ v → Accepted (walkOf kept cs way scale done u)
+  walk-within : Held kept cs → (way : List Step) (scale : Scale) (done : ℕ) (t u v : ℤ) → Accepted (walkOf kept cs way scale done t)
+      → Accepted (walkOf kept cs way scale done v) → t ≤ℤ u → u ≤ℤ v → Accepted (walkOf kept cs way scale done u)
   unfolding walkOf
   walk-within h [] scale done t u v early late l m = (record { scale = scale; tick = u }, done, refl)
   walk-within h (step ∷ more) scale done t u v early late l m =
@@ -67,7 +68,8 @@ module _ (kept : Kept) (cs : List ℤ) where
     unfolding betweenOf readOf inRange
     entry-walk t a = rw (read-accepted t a .0)
 
-    pub entry-within : Held kept cs → (t u v : ℤ) → Accepted (entryOf from to kept cs t) → Accepted (entryOf from to kept cs v) → t ≤ℤ u → u ≤ℤ v → Accepted (entryOf from to kept cs u)
+    pub entry-within : Held kept cs → (t u v : ℤ) → Accepted (entryOf from to kept cs t) → Accepted (entryOf from to kept cs v) → t ≤ℤ u → u ≤ℤ v
+        → Accepted (entryOf from to kept cs u)
     unfolding betweenOf readOf inRange
     entry-within h t u v early late l m =
         let a = read-accepted t early in
@@ -117,6 +119,7 @@ module _ (kept : Kept) (cs : List ℤ) (h : Held kept cs) (from to : Scale) wher
       let here = entry-within kept cs from to h (ends .earliest) tick (ends .latest) early late (≤-trans (ends .earliest) e tick (a .0) (sooner-both earliest tick .1)) (≤-trans tick l (ends .latest) (later-both latest tick .1) (a .1)) in
       rw (here .2) (tried-within e l (suc index) more early late)
 
-  pub ends-accepted : (first : ℤ) (ticks : List ℤ) (ends : Ends) → ends ≡ endsOf first first ticks → isAccepted (entry (ends .earliest)) ≡ true → isAccepted (entry (ends .latest)) ≡ true → allTried from to ticks kept cs ≡ Batched.Converted (steps from to)
+  pub ends-accepted : (first : ℤ) (ticks : List ℤ) (ends : Ends) → ends ≡ endsOf first first ticks → isAccepted (entry (ends .earliest)) ≡ true
+      → isAccepted (entry (ends .latest)) ≡ true → allTried from to ticks kept cs ≡ Batched.Converted (steps from to)
   ends-accepted first ticks ends are early late =
       tried-within first first 0 ticks (rw are at (accepted-told (entry (ends .earliest)) early)) (rw are at (accepted-told (entry (ends .latest)) late))

@@ -5,8 +5,8 @@
 --
 -- One step, whichever it is: `OneStep` (step-order; step-within). That accepted ticks form an interval: `Interval` (entry-within).
 --
--- For the code. A conversion by what is asked: `Asking`. A table that is kept, and the bytes that it came from: `Opening`. A step's own struct: `Structs`. What is
--- left of a walk: `Walking`. The loops of a batch: `Batches`, `Writing`.
+-- For the code. A conversion by what is asked: `Asking`. A table that is kept, and the bytes that it came from: `Opening`. A step's own struct: `Structs`. What
+-- is left of a walk: `Walking`. The loops of a batch: `Batches`, `Writing`.
 pub mod Asking
 pub mod Batches
 pub mod BatchTheorems

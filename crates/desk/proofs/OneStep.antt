@@ -1,5 +1,5 @@
--- What holds of each of the ten steps of a walk, over whatever table has been accepted: the earlier never comes out later, and between two ticks from which it is
--- taken there is none from which it is not. Assumes nothing.
+-- What holds of each of the ten steps of a walk, over whatever table has been accepted: the earlier never comes out later, and between two ticks from which it
+-- is taken there is none from which it is not. Assumes nothing.
 use mathlib.Core.Path.{_≡_, refl, sym, _∙_}
 use mathlib.Core.Bool.{Bool, true, false, cond, _&&_}
 use mathlib.Core.List.{List}
@@ -70,7 +70,8 @@ module _ (line : Linear) (t : ℤ) where
   unfolding linear.step kept
   line-reached u e = by (isValid t) (isValid (nearestTick line t)) e
     where
-      by : (from to : Bool) → ranged (cond from (cond to (At (nearestTick line t)) Outside) Outside) ≡ Reached u → (from ≡ true) × (to ≡ true) × (nearestTick line t ≡ u)
+      by : (from to : Bool) → ranged (cond from (cond to (At (nearestTick line t)) Outside) Outside) ≡ Reached u
+          → (from ≡ true) × (to ≡ true) × (nearestTick line t ≡ u)
       by true true e = (refl, refl, cc)
       by true false e = out-of-range e
       by false to e = out-of-range e
@@ -89,7 +90,8 @@ module _ (line : Line) where
   line-order : (t u v w : ℤ) → linearly (lineOf line) t ≡ Reached u → linearly (lineOf line) v ≡ Reached w → t ≤ℤ v → u ≤ℤ w
   line-order t u v w e f l = rw (← line-reached (lineOf line) t u e .2, ← line-reached (lineOf line) v w f .2) (keeps-order t v l)
 
-  line-within : (t u v x w : ℤ) → linearly (lineOf line) t ≡ Reached x → linearly (lineOf line) v ≡ Reached w → t ≤ℤ u → u ≤ℤ v → Comes (linearly (lineOf line) u)
+  line-within : (t u v x w : ℤ) → linearly (lineOf line) t ≡ Reached x → linearly (lineOf line) v ≡ Reached w → t ≤ℤ u → u ≤ℤ v
+      → Comes (linearly (lineOf line) u)
   line-within t u v x w e f l m =
       let a = line-reached (lineOf line) t x e in
       let b = line-reached (lineOf line) v w f in
@@ -97,11 +99,13 @@ module _ (line : Line) where
 
 -- ---- a step over the table that reaches a tick
 module _ (table : Table) (cs : List ℤ) (t : ℤ) where
-  pub tdb-reached : (u : ℤ) → reachedTdb (tdbStep table cs t) ≡ Reached u → (isInside table t ≡ true) × (isValid (tdbOf table cs t) ≡ true) × (tdbOf table cs t ≡ u)
+  pub tdb-reached : (u : ℤ) → reachedTdb (tdbStep table cs t) ≡ Reached u
+      → (isInside table t ≡ true) × (isValid (tdbOf table cs t) ≡ true) × (tdbOf table cs t ≡ u)
   unfolding tdbStep keptTdb
   tdb-reached u e = by (isInside table t) (isValid (tdbOf table cs t)) e
     where
-      by : (inside valid : Bool) → reachedTdb (cond inside (cond valid (Tdb.Reached (record { 0 = tdbOf table cs t })) Tdb.OutsideRange) Tdb.OutsideTable) ≡ Reached u
+      by : (inside valid : Bool)
+          → reachedTdb (cond inside (cond valid (Tdb.Reached (record { 0 = tdbOf table cs t })) Tdb.OutsideRange) Tdb.OutsideTable) ≡ Reached u
           → (inside ≡ true) × (valid ≡ true) × (tdbOf table cs t ≡ u)
       by true true e = (refl, refl, cc)
       by true false e = out-of-range e
@@ -115,7 +119,8 @@ module _ (table : Table) (cs : List ℤ) (t : ℤ) where
   unfolding ttStep
   tt-reached u e = by (isCovered table cs t) e
     where
-      by : (covered : Bool) → reachedTt (cond covered (Tt.Reached (record { 0 = ttOf table cs t })) Tt.OutsideTable) ≡ Reached u → (covered ≡ true) × (ttOf table cs t ≡ u)
+      by : (covered : Bool) → reachedTt (cond covered (Tt.Reached (record { 0 = ttOf table cs t })) Tt.OutsideTable) ≡ Reached u
+          → (covered ≡ true) × (ttOf table cs t ≡ u)
       by true e = (refl, cc)
       by false e = nowhere e
 
@@ -132,7 +137,8 @@ module _ (cs : List ℤ) where
       let b = tdb-reached table cs v w f in
       rw (← a .2, ← b .2) (order table cs (h .accepted table refl) t v (a .0) (b .0) l)
 
-  tdb-within : (kept : Kept) → Held kept cs → (t u v x w : ℤ) → toTdb kept cs t ≡ Reached x → toTdb kept cs v ≡ Reached w → t ≤ℤ u → u ≤ℤ v → Comes (toTdb kept cs u)
+  tdb-within : (kept : Kept) → Held kept cs → (t u v x w : ℤ) → toTdb kept cs t ≡ Reached x → toTdb kept cs v ≡ Reached w → t ≤ℤ u → u ≤ℤ v
+      → Comes (toTdb kept cs u)
   tdb-within K.Nothing h t u v x w e f l m = nowhere e
   tdb-within (K.Table table) h t u v x w e f l m =
       let a = tdb-reached table cs t x e in
@@ -144,11 +150,13 @@ module _ (cs : List ℤ) where
 
   tt-order : (kept : Kept) → Held kept cs → (t u v w : ℤ) → toTt kept cs t ≡ Reached u → toTt kept cs v ≡ Reached w → t ≤ℤ v → u ≤ℤ w
   tt-order K.Nothing h t u v w e f l = nowhere e
-  tt-order (K.Table table) h t u v w e f l = rw (← tt-reached table cs t u e .1, ← tt-reached table cs v w f .1) (order-back table cs (h .accepted table refl) t v l)
+  tt-order (K.Table table) h t u v w e f l =
+      rw (← tt-reached table cs t u e .1, ← tt-reached table cs v w f .1) (order-back table cs (h .accepted table refl) t v l)
 
   tt-within : (kept : Kept) → (t u v x w : ℤ) → toTt kept cs t ≡ Reached x → toTt kept cs v ≡ Reached w → t ≤ℤ u → u ≤ℤ v → Comes (toTt kept cs u)
   tt-within K.Nothing t u v x w e f l m = nowhere e
-  tt-within (K.Table table) t u v x w e f l m = tt-comes table cs u (covered-within t u v l m table cs (tt-reached table cs t x e .0) (tt-reached table cs v w f .0))
+  tt-within (K.Table table) t u v x w e f l m =
+      tt-comes table cs u (covered-within t u v l m table cs (tt-reached table cs t x e .0) (tt-reached table cs v w f .0))
 
 -- ---- the ten steps: eight by a line, and the two over the table
 abbrev pub stepBy : Line → Step
@@ -195,7 +203,8 @@ module _ (kept : Kept) (cs : List ℤ) where
         (tt-order cs kept h)
 
     -- between two ticks from which a step is taken it is taken
-    pub step-within : (step : Step) (t u v x w : ℤ) → stepOf kept cs step t ≡ Reached x → stepOf kept cs step v ≡ Reached w → t ≤ℤ u → u ≤ℤ v → Comes (stepOf kept cs step u)
+    pub step-within : (step : Step) (t u v x w : ℤ) → stepOf kept cs step t ≡ Reached x → stepOf kept cs step v ≡ Reached w → t ≤ℤ u → u ≤ℤ v
+        → Comes (stepOf kept cs step u)
     step-within = each-step _
         (λ line t u v x w e f l m. let c = line-within line t u v x w (sym (by-line line t) ∙ e) (sym (by-line line v) ∙ f) l m in (c .0, by-line line u ∙ c .1))
         (tdb-within cs kept h)

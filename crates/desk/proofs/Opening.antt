@@ -1,5 +1,5 @@
--- What a walk asks of the table that is kept holds where none is kept, and of bytes that were judged and accepted; and so what a conversion asks of a table that
--- was judged. Assumes nothing.
+-- What a walk asks of the table that is kept holds where none is kept, and of bytes that were judged and accepted; and so what a conversion asks of a table
+-- that was judged. Assumes nothing.
 use mathlib.Core.Path.{_≡_, ap, subst}
 use mathlib.Core.List.{List, []}
 use Prim.Native.Nat.{ℕ, _≤_}

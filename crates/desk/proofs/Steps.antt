@@ -54,7 +54,8 @@ module _ (epoch : Epoch) (n : ℕ) where
   stepping rest done OutsideTable e = not-both refl e
   stepping rest done OutsideRange e = not-both refl e
 
-pub steps-are : (kept : Kept) (coefficients : List ℤ) (way : List Step) (scale : Scale) (done : ℕ) (tick : ℤ) {epoch : Epoch} {n : ℕ} → walkOf kept coefficients way scale done tick ≡ Converted epoch n → n ≡ done + length way
+pub steps-are : (kept : Kept) (coefficients : List ℤ) (way : List Step) (scale : Scale) (done : ℕ) (tick : ℤ) {epoch : Epoch} {n : ℕ}
+    → walkOf kept coefficients way scale done tick ≡ Converted epoch n → n ≡ done + length way
 unfolding walkOf
 steps-are kept coefficients [] scale done tick {n = n} e = let d : n ≡ done = cc in omega arith
 steps-are kept coefficients (step ∷ more) scale done tick {epoch} {n} e =
@@ -63,11 +64,13 @@ steps-are kept coefficients (step ∷ more) scale done tick {epoch} {n} e =
     omega arith
 
 -- ---- the conversion
-started-steps : (walk : ℤ → Answer) (read : Read) {many : ℕ} {epoch : Epoch} {n : ℕ} → ((tick : ℤ) → walk tick ≡ Converted epoch n → n ≡ many) → started walk read ≡ Converted epoch n → n ≡ many
+started-steps : (walk : ℤ → Answer) (read : Read) {many : ℕ} {epoch : Epoch} {n : ℕ} → ((tick : ℤ) → walk tick ≡ Converted epoch n → n ≡ many)
+    → started walk read ≡ Converted epoch n → n ≡ many
 started-steps walk (R.Tick tick) h e = h tick e
 started-steps walk (R.Refused refusal) h e = not-both refl e
 
-pub between-steps : (from to : Scale) (read : Read) (kept : Kept) (coefficients : List ℤ) {epoch : Epoch} {n : ℕ} → betweenOf from to read kept coefficients ≡ Converted epoch n → n ≡ steps from to
+pub between-steps : (from to : Scale) (read : Read) (kept : Kept) (coefficients : List ℤ) {epoch : Epoch} {n : ℕ}
+    → betweenOf from to read kept coefficients ≡ Converted epoch n → n ≡ steps from to
 unfolding betweenOf
 between-steps from to read kept coefficients e =
     started-steps _ read (λ tick d. steps-are kept coefficients (path from to) from 0 tick d ∙ zero-add (steps from to)) e
@@ -78,7 +81,8 @@ stepsAsked (A.Plain from to) = steps from to
 stepsAsked (A.Crossing from to) = steps from to
 stepsAsked (A.Refused refusal) = 0
 
-pub asked-steps : (asked : Asked) (read : Read) (table : Judged) (coefficients : List ℤ) {epoch : Epoch} {n : ℕ} → convertAsked asked read table coefficients ≡ Converted epoch n → n ≡ stepsAsked asked
+pub asked-steps : (asked : Asked) (read : Read) (table : Judged) (coefficients : List ℤ) {epoch : Epoch} {n : ℕ}
+    → convertAsked asked read table coefficients ≡ Converted epoch n → n ≡ stepsAsked asked
 asked-steps (A.Plain from to) read table coefficients e = between-steps from to read Nothing [] e
 asked-steps (A.Crossing from to) read (J.Accepted numbers) coefficients e = between-steps from to read (Table numbers) coefficients e
 asked-steps (A.Crossing from to) read (J.Refused refusal) coefficients e = not-both refl e
@@ -94,6 +98,7 @@ module _ (from to : ℕ) (start end : Scale) (begins : scaleOf from 0 ≡ N.Scal
       either true = refl
       either false = refl
 
-  pub conversion-steps : (reading : Reading) (bytes : List ℕ) {epoch : Epoch} {n : ℕ} → convertOf from to reading bytes ≡ Converted epoch n → n ≡ steps start end
+  pub conversion-steps : (reading : Reading) (bytes : List ℕ) {epoch : Epoch} {n : ℕ} → convertOf from to reading bytes ≡ Converted epoch n
+      → n ≡ steps start end
   unfolding convertOf convertJudged
   conversion-steps reading bytes e = asked-steps (askedOf from to true) (readOf reading) (judged bytes) (coefficientsIn bytes) e ∙ named-steps

@@ -39,7 +39,8 @@ module _ (kept : Kept) (cs : List ℤ) (from to : Scale) (ticks : List ℤ) wher
     walked-none = record { long = refl; each = λ i h. whole-left kept cs to from (getD ticks i (pos 0)) ∙ sym (entry-walk kept cs from to (getD ticks i (pos 0)) (accepted-at i h)) }
 
     -- each entry is accepted, so that the step is taken from each
-    pub walked-more : (done : ℕ) (scale : Scale) (list : List ℤ) (step : Step) → done < 4 → next scale to ≡ By step → Walked done scale list → Walked (done + 1) (end step) (allStepped kept cs step list)
+    pub walked-more : (done : ℕ) (scale : Scale) (list : List ℤ) (step : Step) → done < 4 → next scale to ≡ By step → Walked done scale list
+        → Walked (done + 1) (end step) (allStepped kept cs step list)
     walked-more done scale list step h by w = record { long = length-map list _ ∙ w .long; each = each }
       where
         each : (i : ℕ) → i < length ticks → left kept cs to (done + 1) (end step) (getD (allStepped kept cs step list) i (pos 0)) ≡ entryAt i
@@ -48,10 +49,13 @@ module _ (kept : Kept) (cs : List ℤ) (from to : Scale) (ticks : List ℤ) wher
             let a = accepted-at i k in
             let x = stepping (a .0) (a .1) _ done (stepOf kept cs step t) (sym (stepped kept cs to done scale t h step by) ∙ w .each i k ∙ a .2) in
             let here = map-at (λ tick. tickReached (stepOf kept cs step tick)) list (pos 0) (pos 0) i (subst (λ (m : ℕ). i < m) (sym (w .long)) k) in
-            ap (left kept cs to (done + 1) (end step)) (here ∙ ap tickReached (x .reached)) ∙ sym (further kept cs to done scale t h step by (x .tick) (x .reached)) ∙ w .each i k
+            ap (left kept cs to (done + 1) (end step)) (here ∙ ap tickReached (x .reached))
+            ∙ sym (further kept cs to done scale t h step by (x .tick) (x .reached))
+            ∙ w .each i k
 
   module _ (done : ℕ) (scale : Scale) (list : List ℤ) (w : Walked done scale list) where
-    ended : ((tick : ℤ) → left kept cs to done scale tick ≡ Converted (record { scale = scale; tick = tick }) done) → list ≡ ticksBy (entryOf from to kept cs) ticks
+    ended : ((tick : ℤ) → left kept cs to done scale tick ≡ Converted (record { scale = scale; tick = tick }) done)
+        → list ≡ ticksBy (entryOf from to kept cs) ticks
     unfolding tickOf
     ended last = is-map (λ tick. tickOf (entryOf from to kept cs tick)) ticks list (pos 0) (pos 0) (w .long) (λ i h. ap tickOf (sym (last (getD list i (pos 0))) ∙ w .each i h))
 

@@ -1,5 +1,6 @@
--- 'A batch converts a list of ticks into a second list of equal length. All are tried first; the earliest refusal is the batch's, with its index, and nothing is
--- written; for 1, 8 and the table's numbers the index is 0. An empty batch still gets checks 1, 8 and the table. An accepted batch answers the path's steps.'
+-- 'A batch converts a list of ticks into a second list of equal length. All are tried first; the earliest refusal is the batch's, with its index, and nothing
+-- is written; for 1, 8 and the table's numbers the index is 0. An empty batch still gets checks 1, 8 and the table. An accepted batch answers the path's
+-- steps.'
 use mathlib.Core.Path.{_≡_}
 use mathlib.Core.List.{List, [], _∷_, map}
 use Prim.Native.Nat.{ℕ, suc}

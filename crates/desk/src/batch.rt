@@ -248,7 +248,8 @@ fn batch_crossing(
     }
 }
 
-// Converts ticks of the scale of the first code into ticks of the scale of the second, over the table that the bytes hold: all of them, or none and the refusal.
+// Converts ticks of the scale of the first code into ticks of the scale of the second, over the table that the bytes hold: all of them, or none and the
+// refusal.
 pub fn batch(from: u32, to: u32, ticks: &[i64], answers: &mut [i64], table: &[u8]) -> Batched
     ensures { λ r. ⌜ HasConverted from to (now (ticks .entry)) (now (answers .entry)) (now (answers .exit)) (now (table .entry)) r ⌝ }
 {

@@ -126,7 +126,8 @@ module _ (T : Table) (cs : List ℤ) (A : Accepted T cs) (asked : ℤ) where
       negated : (n : ℕ) (x : ℤ) → natAbs x ≤ n → natAbs (pos 0 -ℤ x) ≤ n
       negated n = rep _ (λ a b. simp lin (omega arith))
 
-  closer : (i r r' : ℕ) → 3 * (r + 1) + 68608 < 65536 * (r' + 1) → Near T cs asked i r → Near T cs asked (held (asked +ℤ tableDelay T cs i -ℤ S T) (lastPlace T)) r'
+  closer : (i r r' : ℕ) → 3 * (r + 1) + 68608 < 65536 * (r' + 1) → Near T cs asked i r
+      → Near T cs asked (held (asked +ℤ tableDelay T cs i -ℤ S T) (lastPlace T)) r'
   closer i r r' l n = pointed-near (tableDelay T cs i) r' (fewer _
       (delay-moves T cs A i (earliestPlace T cs asked) (r + 1) (n .inside) (earliest-inside T cs asked) (omega (arith, n .over)) (n .under)))
     where

@@ -44,7 +44,8 @@ module _ (T : Table) (B : Bounded T) where
       (record { there = omega arith; low = omega arith; high = omega arith; inner = λ l. let never : ⊥ = omega arith in absurd never })
 
 -- ---- c_k of granule g stands at g·(n+1) + k
-pub coefficient-at : (T : Table) (cs : List ℤ) (g k : ℕ) → k < T .degree + 1 → getD (coefficientsOf T cs g) k (pos 0) ≡ getD cs (g * (T .degree + 1) + k) (pos 0)
+pub coefficient-at : (T : Table) (cs : List ℤ) (g k : ℕ) → k < T .degree + 1
+    → getD (coefficientsOf T cs g) k (pos 0) ≡ getD cs (g * (T .degree + 1) + k) (pos 0)
 unfolding coefficientsOf
 coefficient-at T cs g k h = rw (getD-take, getD-drop)
 
@@ -84,7 +85,8 @@ module _ (T : Table) (cs : List ℤ) (A : Accepted T cs) where
   delay-bounded i h = delay-small (coefficientsOf T cs (granuleOf T i)) (placeIn T i) (H T) (evaluable i h)
 
   -- D of every tick is within 33/64 tick of the exact sum
-  pub delay-exact : (i : ℕ) → i ≤ lastPlace T → 64 * natAbs (pos unitsInTick *ℤ tableDelay T cs i *ℤ pos (H T ^ T .degree) -ℤ tableExact T cs i) ≤ 33 * unitsInTick * H T ^ T .degree
+  pub delay-exact : (i : ℕ) → i ≤ lastPlace T
+      → 64 * natAbs (pos unitsInTick *ℤ tableDelay T cs i *ℤ pos (H T ^ T .degree) -ℤ tableExact T cs i) ≤ 33 * unitsInTick * H T ^ T .degree
   unfolding tableDelay tableExact
   delay-exact i h =
       let g = granuleOf T i in

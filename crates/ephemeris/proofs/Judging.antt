@@ -64,7 +64,8 @@ module _ (b : List ℕ) (G n g : ℕ) (inside : g < G) where
 last-is : (s l : ℤ) (G : ℕ) → l ≡ pos (natAbs l) → s +ℤ pos G *ℤ l ≡ s +ℤ pos (G * natAbs l)
 last-is s l G e = ap (λ (z : ℤ). s +ℤ pos G *ℤ z) e
 
-joins-at : (b : List ℕ) (n g : ℕ) → isJoin (image.granuleOf b n) (suc g) ≡ true → isJoined (plainSum (image.granuleOf b n g)) (alternatingSum (image.granuleOf b n (suc g))) ≡ true
+joins-at : (b : List ℕ) (n g : ℕ) → isJoin (image.granuleOf b n) (suc g) ≡ true
+    → isJoined (plainSum (image.granuleOf b n g)) (alternatingSum (image.granuleOf b n (suc g))) ≡ true
 unfolding isJoin
 joins-at b n g h = h
 

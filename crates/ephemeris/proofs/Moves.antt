@@ -33,7 +33,8 @@ swapped = rep₂ _ (λ a b c d. simp sizes (omega arith))
 apart-id : (b d' d x' x : ℤ) → b *ℤ (pos 65536 *ℤ (d' -ℤ d)) ≡ (pos 65536 *ℤ d' *ℤ b -ℤ x') +ℤ (negℤ (pos 65536 *ℤ d *ℤ b -ℤ x) +ℤ (x' -ℤ x))
 apart-id = all₅ _ (λ ρ. simp (quote, q-con ρ) (ring ρ _ _ tt))
 
-apart : (B k : ℕ) (d' d x' x : ℤ) → 0 < B → 64 * natAbs (pos 65536 *ℤ d' *ℤ pos B -ℤ x') ≤ 33 * 65536 * B → 64 * natAbs (pos 65536 *ℤ d *ℤ pos B -ℤ x) ≤ 33 * 65536 * B
+apart : (B k : ℕ) (d' d x' x : ℤ) → 0 < B → 64 * natAbs (pos 65536 *ℤ d' *ℤ pos B -ℤ x') ≤ 33 * 65536 * B
+    → 64 * natAbs (pos 65536 *ℤ d *ℤ pos B -ℤ x) ≤ 33 * 65536 * B
     → natAbs (x' -ℤ x) ≤ (3 * k + 1024) * B → 65536 * natAbs (d' -ℤ d) ≤ 3 * k + 68608
 apart B k d' d x' x h near' near far =
     let y' = pos 65536 *ℤ d' *ℤ pos B -ℤ x' in
@@ -61,14 +62,16 @@ module _ (T : Table) (cs : List ℤ) (A : Accepted T cs) where
       rw e (rw (same-degree T cs A g (a .there)) at (exact-next (coefficientsOf T cs g) (H T) (p .some) (omega (arith, above)) (p .slow) (i - g * H T) (omega (arith, a .low, b .high))))
 
   exact-over : (i g : ℕ) → At (T .count) (H T) i g → suc g < T .count → suc i ≡ g * H T + H T
-      → natAbs (exactAt (coefficientsOf T cs (suc g)) (suc i - suc g * H T) (H T) -ℤ exactAt (coefficientsOf T cs g) (i - g * H T) (H T)) ≤ 1026 * H T ^ T .degree
+      → natAbs (exactAt (coefficientsOf T cs (suc g)) (suc i - suc g * H T) (H T) -ℤ exactAt (coefficientsOf T cs g) (i - g * H T) (H T))
+      ≤ 1026 * H T ^ T .degree
   exact-over i g a h e =
       let f : suc i - suc g * H T ≡ 0 = omega arith in
       rw f
       (rw (same-degree T cs A g (a .there)) at
       (exact-join (coefficientsOf T cs g) (coefficientsOf T cs (suc g)) (H T) (passed T cs A g (a .there)) (passed T cs A (suc g) h) (meeting T cs A g h) (i - g * H T) 0 1 (omega arith) (omega arith) (omega (arith, a .low, above))))
 
-  exact-step : (i : ℕ) → suc i ≤ lastPlace T → natAbs (tableExact T cs (suc i) -ℤ tableExact T cs i) + 1024 * (granuleOf T i * H T ^ T .degree) ≤ 2 * H T ^ T .degree + 1024 * (granuleOf T (suc i) * H T ^ T .degree)
+  exact-step : (i : ℕ) → suc i ≤ lastPlace T → natAbs (tableExact T cs (suc i) -ℤ tableExact T cs i) + 1024 * (granuleOf T i * H T ^ T .degree)
+      ≤ 2 * H T ^ T .degree + 1024 * (granuleOf T (suc i) * H T ^ T .degree)
   unfolding tableExact placeIn
   exact-step i h = ⊎-elim same over (next (T .count) (H T) i (granuleOf T i) (granuleOf T (suc i)) (omega (arith, above)) a b)
     where
@@ -89,7 +92,8 @@ module _ (T : Table) (cs : List ℤ) (A : Accepted T cs) where
       over e = let f = e .0 in rw f (omega (arith, exact-over i (granuleOf T i) a (rw f at (b .there)) (e .1)))
 
   -- and over k ticks
-  exact-along : (i k : ℕ) → i + k ≤ lastPlace T → natAbs (tableExact T cs (i + k) -ℤ tableExact T cs i) + 1024 * (granuleOf T i * H T ^ T .degree) ≤ 2 * k * H T ^ T .degree + 1024 * (granuleOf T (i + k) * H T ^ T .degree)
+  exact-along : (i k : ℕ) → i + k ≤ lastPlace T → natAbs (tableExact T cs (i + k) -ℤ tableExact T cs i) + 1024 * (granuleOf T i * H T ^ T .degree)
+      ≤ 2 * k * H T ^ T .degree + 1024 * (granuleOf T (i + k) * H T ^ T .degree)
   exact-along i zero h = let e : i + 0 ≡ i = omega arith in rw (e, start-none (tableExact T cs i)) (omega arith)
   exact-along i (suc k) h =
       let e : i + suc k ≡ suc (i + k) = omega arith in
@@ -106,7 +110,8 @@ module _ (T : Table) (cs : List ℤ) (A : Accepted T cs) where
       (pow-above (H T) (T .degree) (omega (arith, above))) (delay-exact T cs A (i + k) h) (delay-exact T cs A i (omega arith)) (exact-far i k h)
 
   -- D at two places at most k ticks apart
-  pub delay-moves : (i j k : ℕ) → i ≤ lastPlace T → j ≤ lastPlace T → i ≤ j + k → j ≤ i + k → unitsInTick * natAbs (tableDelay T cs i -ℤ tableDelay T cs j) ≤ 3 * k + 68608
+  pub delay-moves : (i j k : ℕ) → i ≤ lastPlace T → j ≤ lastPlace T → i ≤ j + k → j ≤ i + k
+      → unitsInTick * natAbs (tableDelay T cs i -ℤ tableDelay T cs j) ≤ 3 * k + 68608
   delay-moves i j k hi hj a b = ⊎-elim
       (λ (l : i ≤ j). let e : i + (j - i) ≡ j = omega arith in omega (arith, rw e at (delay-up i (j - i) (omega arith)), swapped (tableDelay T cs i) (tableDelay T cs j)))
       (λ (l : j < i). let e : j + (i - j) ≡ i = omega arith in omega (arith, rw e at (delay-up j (i - j) (omega arith))))

@@ -25,12 +25,14 @@ module _ (T : Table) (cs : List ℤ) (A : Accepted T cs) where
   delay-next : (i k : ℕ) → k ≤ 2 → i + k ≤ lastPlace T → natAbs (tableDelay T cs (i + k) -ℤ tableDelay T cs i) ≤ 1
   delay-next i k few h = one-at-most _ (omega (arith, delay-moves T cs A (i + k) i k h (omega arith) (omega arith) (omega arith)))
 
-  step : (k : ℕ) (s d' d : ℤ) (i : ℕ) → natAbs (d' -ℤ d) ≤ 1 → (((s +ℤ pos i) -ℤ d +ℤ pos k) ≤ℤ ((s +ℤ pos (i + k)) -ℤ d' +ℤ pos 1)) × (((s +ℤ pos (i + k)) -ℤ d') ≤ℤ ((s +ℤ pos i) -ℤ d +ℤ pos (k + 1)))
+  step : (k : ℕ) (s d' d : ℤ) (i : ℕ) → natAbs (d' -ℤ d) ≤ 1
+      → (((s +ℤ pos i) -ℤ d +ℤ pos k) ≤ℤ ((s +ℤ pos (i + k)) -ℤ d' +ℤ pos 1)) × (((s +ℤ pos (i + k)) -ℤ d') ≤ℤ ((s +ℤ pos i) -ℤ d +ℤ pos (k + 1)))
   step k s d' d i = rep₃ (λ s d' d. natAbs (d' -ℤ d) ≤ 1 → (((s +ℤ pos i) -ℤ d +ℤ pos k) ≤ℤ ((s +ℤ pos (i + k)) -ℤ d' +ℤ pos 1)) × (((s +ℤ pos (i + k)) -ℤ d') ≤ℤ ((s +ℤ pos i) -ℤ d +ℤ pos (k + 1))))
       (λ a b c d e f. simp lin (omega arith)) s d' d
 
   -- TDB over k ticks, one or two: it rises by at least k − 1 and at most k + 1
-  pub tdb-next : (i k : ℕ) → k ≤ 2 → i + k ≤ lastPlace T → ((tdbAt T cs i +ℤ pos k) ≤ℤ (tdbAt T cs (i + k) +ℤ pos 1)) × (tdbAt T cs (i + k) ≤ℤ (tdbAt T cs i +ℤ pos (k + 1)))
+  pub tdb-next : (i k : ℕ) → k ≤ 2 → i + k ≤ lastPlace T
+      → ((tdbAt T cs i +ℤ pos k) ≤ℤ (tdbAt T cs (i + k) +ℤ pos 1)) × (tdbAt T cs (i + k) ≤ℤ (tdbAt T cs i +ℤ pos (k + 1)))
   tdb-next i k few h = rw (tdb-is T cs i, tdb-is T cs (i + k)) (step k (S T) (tableDelay T cs (i + k)) (tableDelay T cs i) i (delay-next i k few h))
 
   -- ---- over the whole table, for any two ticks

@@ -81,7 +81,8 @@ uncovered-number T cs a h = rw h
 module _ (T : Table) (cs : List ℤ) (A : Accepted T cs) where
   -- ---- 1. Each TT to TDB answer is within 33/64 tick of TT minus the exact sum, all times 65536·H^n: 64·|u·TDB − (u·TT − H^n·sum)| ≤ 33·u
   pub distance : (t : ℤ) → isInside T t ≡ true
-      → 64 * natAbs (pos (unitsInTick * H T ^ T .degree) *ℤ tdbOf T cs t -ℤ (pos (unitsInTick * H T ^ T .degree) *ℤ t -ℤ tableExact T cs (placeOf T t))) ≤ 33 * (unitsInTick * H T ^ T .degree)
+      → 64 * natAbs (pos (unitsInTick * H T ^ T .degree) *ℤ tdbOf T cs t -ℤ (pos (unitsInTick * H T ^ T .degree) *ℤ t -ℤ tableExact T cs (placeOf T t)))
+      ≤ 33 * (unitsInTick * H T ^ T .degree)
   unfolding tdbOf
   distance t h =
       let u = pos (unitsInTick * H T ^ T .degree) in
@@ -108,7 +109,9 @@ module _ (T : Table) (cs : List ℤ) (A : Accepted T cs) where
   -- ---- the asked TDB inside the ends, and its earliest tick
   covered-both : (a : ℤ) → isCovered T cs a ≡ true → (tdbAt T cs 0 ≤ℤ a) × (a ≤ℤ tdbAt T cs (lastPlace T))
   unfolding isCovered
-  covered-both a e = let b = both (leZ (tdbAt T cs 0) a) (leZ a (tdbAt T cs (lastPlace T))) e in (le-yes (tdbAt T cs 0) a (b .0), le-yes a (tdbAt T cs (lastPlace T)) (b .1))
+  covered-both a e =
+      let b = both (leZ (tdbAt T cs 0) a) (leZ a (tdbAt T cs (lastPlace T))) e in
+      (le-yes (tdbAt T cs 0) a (b .0), le-yes a (tdbAt T cs (lastPlace T)) (b .1))
 
   -- there is always one, and TT from TDB is it
   pub earliest-of : (a : ℤ) → isCovered T cs a ≡ true → Earliest T cs a (ttOf T cs a)
@@ -134,7 +137,8 @@ module _ (T : Table) (cs : List ℤ) (A : Accepted T cs) where
   unfolding ttOf tickAt isValid
   tt-valid a =
       let t = S T +ℤ pos (earliestPlace T cs a) in
-      size-test furthest t ∙ is-true (leb (natAbs t) furthest) (le→leb (natAbs t) furthest (tick-small T (A .bounds) (earliestPlace T cs a) (earliest-inside T cs a)))
+      size-test furthest t
+      ∙ is-true (leb (natAbs t) furthest) (le→leb (natAbs t) furthest (tick-small T (A .bounds) (earliestPlace T cs a) (earliest-inside T cs a)))
 
   -- ---- 3. TT to TDB to TT lands within one tick, and so does TDB to TT to TDB
   pub tdb-covered : (t : ℤ) → isInside T t ≡ true → isCovered T cs (tdbOf T cs t) ≡ true

@@ -55,7 +55,8 @@ module _ (T : Table) (cs : List ℤ) (asked : ℤ) where
 
   -- what a search has to show: it is reached here, or here is the end; and the tick before is before the asked
   module _ (A : Accepted T cs) where
-    pub earliest-is : (i : ℕ) → i ≤ lastPlace T → (i < lastPlace T → asked ≤ℤ tdbAt T cs i) → ((j : ℕ) → suc j ≡ i → tdbAt T cs j <ℤ asked) → earliestPlace T cs asked ≡ i
+    pub earliest-is : (i : ℕ) → i ≤ lastPlace T → (i < lastPlace T → asked ≤ℤ tdbAt T cs i) → ((j : ℕ) → suc j ≡ i → tdbAt T cs j <ℤ asked)
+        → earliestPlace T cs asked ≡ i
     unfolding earliestPlace
     earliest-is i h r b = sym (first-is (λ i. ltZ (tdbAt T cs i) asked) (lastPlace T) i (record {
       within = h;

@@ -20,7 +20,8 @@ use Rattle.granule.proofs.Passing.{small-cons, small-drop, small-at}
 use Rattle.granule.proofs.Distance.{p-small, u-small}
 
 -- one turn
-turned : (u c b₁ b₂ : ℤ) (x y : ℕ) → natAbs u ≤ scale → natAbs c ≤ largest → natAbs b₁ ≤ x → natAbs b₂ ≤ y → natAbs (c +ℤ nearest (u *ℤ b₁) (2 ^ 29) -ℤ b₂) ≤ largest + 2 * x + y
+turned : (u c b₁ b₂ : ℤ) (x y : ℕ) → natAbs u ≤ scale → natAbs c ≤ largest → natAbs b₁ ≤ x → natAbs b₂ ≤ y
+    → natAbs (c +ℤ nearest (u *ℤ b₁) (2 ^ 29) -ℤ b₂) ≤ largest + 2 * x + y
 turned u c b₁ b₂ x y hu hc h₁ h₂ =
     let q = nearest (u *ℤ b₁) (2 ^ 29) in
     let hq : natAbs q ≤ 2 * x = nearest-small (u *ℤ b₁) (2 ^ 29) (2 * x) (lit< tt) (omega (arith, size-* u b₁ hu h₁)) in
@@ -32,7 +33,8 @@ unfoldable top : ℕ → ℕ × ℕ
 top zero = (0, 0)
 top (suc m) = (largest + 2 * (top m .0) + top m .1, top m .0)
 
-below : (u : ℤ) → natAbs u ≤ scale → (cs : List ℤ) → isSmall cs ≡ true → (natAbs (bFrom u cs .0) ≤ top (length cs) .0) × (natAbs (bFrom u cs .1) ≤ top (length cs) .1)
+below : (u : ℤ) → natAbs u ≤ scale → (cs : List ℤ) → isSmall cs ≡ true
+    → (natAbs (bFrom u cs .0) ≤ top (length cs) .0) × (natAbs (bFrom u cs .1) ≤ top (length cs) .1)
 unfolding bFrom top
 below u hu [] e = (lit≤ tt, lit≤ tt)
 below u hu (c ∷ cs) e =
@@ -59,7 +61,8 @@ b-bounded u cs k hu e few h =
     le-trans (below u hu (drop k cs) (small-drop cs k e) .0) (le-trans (grows 15 (length (drop k cs)) l) last)
 
 -- ---- what b_k and v are made of, at the turn k
-pub terms : (cs : List ℤ) (place H k : ℕ) → Evaluable cs place H → Terms (uOf (pOf place H) H) (getD cs k (pos 0)) (bAt (uOf (pOf place H) H) cs (suc k)) (bAt (uOf (pOf place H) H) cs (suc (suc k)))
+pub terms : (cs : List ℤ) (place H k : ℕ) → Evaluable cs place H
+    → Terms (uOf (pOf place H) H) (getD cs k (pos 0)) (bAt (uOf (pOf place H) H) cs (suc k)) (bAt (uOf (pOf place H) H) cs (suc (suc k)))
 terms cs place H k e =
     let long = e .placed .long in
     let u = uOf (pOf place H) H in

@@ -62,7 +62,8 @@ drop-next [] (suc k) = refl
 drop-next (c ∷ cs) zero = refl
 drop-next (c ∷ cs) (suc k) = drop-next cs k
 
-pub b-turn : (u : ℤ) (cs : List ℤ) (k : ℕ) → k < length cs → bAt u cs k ≡ getD cs k (pos 0) +ℤ nearest (u *ℤ bAt u cs (suc k)) (2 ^ 29) -ℤ bAt u cs (suc (suc k))
+pub b-turn : (u : ℤ) (cs : List ℤ) (k : ℕ) → k < length cs
+    → bAt u cs k ≡ getD cs k (pos 0) +ℤ nearest (u *ℤ bAt u cs (suc k)) (2 ^ 29) -ℤ bAt u cs (suc (suc k))
 b-turn u cs k h = rw (b-at u cs k, b-at u cs (suc k), b-at u cs (suc (suc k)), drop-cons cs k (pos 0) h, b-now u (getD cs k (pos 0)) (drop (suc k) cs), ← drop-next cs (suc k), b-second u (drop (suc k) cs))
 
 -- ---- the sums of the tests

@@ -92,7 +92,8 @@ value-total : (q m : ℕ) → q ^ m * q + m * q ^ (1 + m) ≡ suc m * q ^ suc m
 value-total q m = let e : 1 + m ≡ suc m = omega arith in rw (e, pow-succ' q m) (omega arith)
 
 -- v is the exact sum at u / 2^30, but for n/2 units; times Q^n
-pub v-near : (u : ℤ) → natAbs u ≤ Q → (c : ℤ) (cs : List ℤ) → natAbs (pos 2 *ℤ (vOf u (c ∷ cs) *ℤ pos (Q ^ length cs) -ℤ exactSum u Q (c ∷ cs))) ≤ length cs * Q ^ length cs
+pub v-near : (u : ℤ) → natAbs u ≤ Q → (c : ℤ) (cs : List ℤ)
+    → natAbs (pos 2 *ℤ (vOf u (c ∷ cs) *ℤ pos (Q ^ length cs) -ℤ exactSum u Q (c ∷ cs))) ≤ length cs * Q ^ length cs
 v-near u hu c [] = rw (v-one u c, exact-is u Q (c ∷ []), exact-cons u Q 0 c [], exact-nil u Q 1, pow-zero Q, E-zero u (pos Q), one-value c) (omega arith)
 v-near u hu c (d ∷ ds) =
     let b = bFrom u (d ∷ ds) in

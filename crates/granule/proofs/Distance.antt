@@ -44,7 +44,8 @@ turn = all₄ _ (λ ρ. simp quote (ring ρ _ _ tt))
 less : (Q H x W N d : ℕ) → 0 < H → 2 * d ≤ H → Q * H * x ≤ W * N * d → 2 * Q * x ≤ W * N
 less Q H x W N d h hd k = le-of-mul-le-mul-left {k = H} (omega (arith, mul-le-mul-left (W * N) hd)) h
 
-exact-near : (u p : ℤ) (H : ℕ) → 0 < H → natAbs u ≤ Q → natAbs p ≤ H → natAbs (pos 2 *ℤ (pos H *ℤ u -ℤ pos Q *ℤ p)) ≤ H → (cs : List ℤ) (n : ℕ) → n + 1 ≡ length cs
+exact-near : (u p : ℤ) (H : ℕ) → 0 < H → natAbs u ≤ Q → natAbs p ≤ H → natAbs (pos 2 *ℤ (pos H *ℤ u -ℤ pos Q *ℤ p)) ≤ H → (cs : List ℤ) (n : ℕ)
+    → n + 1 ≡ length cs
     → 2 * Q * natAbs (pos (H ^ n) *ℤ exactSum u Q cs -ℤ pos (Q ^ n) *ℤ exactSum p H cs) ≤ weightOf cs * (Q ^ n * H ^ n)
 unfolding weightOf
 exact-near u p H h hu hp near cs n e =
@@ -108,7 +109,8 @@ module _ (cs : List ℤ) (H : ℕ) (passed : Passed cs H) (place : ℕ) (inside 
   value-within = omega (arith, value-half)
 
   -- demand 3's distance: D is within 33/64 tick of the exact sum in ticks
-  pub delay-within : 64 * natAbs (pos unitsInTick *ℤ delayAt cs place H *ℤ pos (H ^ (length cs - 1)) -ℤ exactAt cs place H) ≤ 33 * unitsInTick * H ^ (length cs - 1)
+  pub delay-within : 64 * natAbs (pos unitsInTick *ℤ delayAt cs place H *ℤ pos (H ^ (length cs - 1)) -ℤ exactAt cs place H)
+      ≤ 33 * unitsInTick * H ^ (length cs - 1)
   unfolding delayAt delayOf
   delay-within =
       let n = length cs - 1 in

@@ -39,7 +39,8 @@ bound : (R k c x y z W d P K : ℕ) → z ≤ c * P * x + y → R * x ≤ k * k 
 bound R k c x y z W d P K hz hx hy = omega (arith, mul-le-mul-left R hz, mul-le-mul-left (c * P) hx)
 
 module _ (a b : ℤ) (R : ℕ) (ha : natAbs a ≤ R) (hb : natAbs b ≤ R) where
-  pub sum-moves : (k : ℕ) (cs : List ℤ) (n : ℕ) → n + 1 ≡ k + length cs → R * natAbs (exactFrom a R k cs -ℤ exactFrom b R k cs) ≤ weightFrom k cs * R ^ n * natAbs (a -ℤ b)
+  pub sum-moves : (k : ℕ) (cs : List ℤ) (n : ℕ) → n + 1 ≡ k + length cs
+      → R * natAbs (exactFrom a R k cs -ℤ exactFrom b R k cs) ≤ weightFrom k cs * R ^ n * natAbs (a -ℤ b)
   sum-moves k [] n e = rw (exact-nil a R k, exact-nil b R k) (omega arith)
   sum-moves k (c ∷ cs) n e =
       let m = length cs in

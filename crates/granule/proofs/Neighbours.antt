@@ -57,7 +57,8 @@ apart B m v' v x' x h k' k l =
     cancel B (natAbs (v' -ℤ v)) m h (omega (arith, abs-* (pos B) (v' -ℤ v), rw (← apart-id (pos B) v' v x' x) at (abs-+ y' (negℤ y +ℤ (x' -ℤ x))), abs-+ (negℤ y) (x' -ℤ x), abs-neg y))
 
 -- D follows v, as long as v moves by less than a tick
-delay-follows : (cs' cs : List ℤ) (H i j m : ℕ) → m ≤ unitsInTick → natAbs (valueAt cs' i H -ℤ valueAt cs j H) ≤ m → natAbs (delayAt cs' i H -ℤ delayAt cs j H) ≤ 1
+delay-follows : (cs' cs : List ℤ) (H i j m : ℕ) → m ≤ unitsInTick → natAbs (valueAt cs' i H -ℤ valueAt cs j H) ≤ m
+    → natAbs (delayAt cs' i H -ℤ delayAt cs j H) ≤ 1
 unfolding delayAt delayOf
 delay-follows cs' cs H i j m l h = nearest-moves (valueAt cs' i H) (valueAt cs j H) unitsInTick (lit< tt) (omega arith)
 

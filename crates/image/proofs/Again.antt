@@ -181,4 +181,6 @@ module _ (b : List ℕ) (t : Table) (forms : (k : ℕ) → k < blocksOf (t .coun
           let w : whichAt j ≡ m = p-which k (g % 3) m u (rest g) h16 hu in
           let fixed : isFree (t .count) (t .degree) k j ≡ false = free-more (t .count) (t .degree) k j (some (g / 3)) ∙ not-free k j m w hm in
           let right = every-at (isRight (t .count) (t .degree) k (block b k)) 508 j (formed k (under g (t .count) hg)) (below j (small k (g % 3) m u (rest g) h16 hu)) in
-          ap (λ x. getD b x 0) (apart (k * 512) (8 + 128 * (g % 3) + 8 * m) u) ∙ eqb-true (block b k j) (fixedByte (t .count) k j) (or-told fixed right) ∙ zero-fixed (t .count) k j (low (g % 3) m u)
+          ap (λ x. getD b x 0) (apart (k * 512) (8 + 128 * (g % 3) + 8 * m) u)
+          ∙ eqb-true (block b k j) (fixedByte (t .count) k j) (or-told fixed right)
+          ∙ zero-fixed (t .count) k j (low (g % 3) m u)

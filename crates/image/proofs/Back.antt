@@ -67,7 +67,8 @@ thirds : (g : ℕ) → 3 * (1 + g / 3 - 1) + g % 3 ≡ g
 thirds g = omega arith
 
 -- byte u of coefficient m of granule g stands in its place
-coefficient-byte : (t : Table) (c : List ℤ) (g m u : ℕ) → g < t .count → m ≤ t .degree → t .degree ≤ 15 → u < 8 → imageByte t c (placeOf g m + u) ≡ byteOf (bitsOf c (g * (t .degree + 1) + m)) u
+coefficient-byte : (t : Table) (c : List ℤ) (g m u : ℕ) → g < t .count → m ≤ t .degree → t .degree ≤ 15 → u < 8
+    → imageByte t c (placeOf g m + u) ≡ byteOf (bitsOf c (g * (t .degree + 1) + m)) u
 unfolding imageByte blockByte bodyByte coefficientByte
 coefficient-byte t c g m u hg hm hn hu =
     let k = 1 + g / 3 in
@@ -89,7 +90,8 @@ coefficient-byte t c g m u hg hm hn hu =
     low : (r m u : ℕ) → 8 ≤ 8 + 128 * r + 8 * m + u
     low r m u = omega arith
 
-    slot : (t : Table) (g m j k : ℕ) → g < t .count → m ≤ t .degree → granuleAt k j ≡ g → whichAt j ≡ m → j < 392 → 8 ≤ j → isCoefficient (t .count) (t .degree) k j ≡ true
+    slot : (t : Table) (g m j k : ℕ) → g < t .count → m ≤ t .degree → granuleAt k j ≡ g → whichAt j ≡ m → j < 392 → 8 ≤ j
+        → isCoefficient (t .count) (t .degree) k j ≡ true
     slot t g m j k hg hm e w h l = slot-is _ _ _ _ (record { low = l; high = h; granule = rw e hg; which = rw w hm })
 
 -- every coefficient fits 64 bits
@@ -105,7 +107,8 @@ mod-of g m n h = mul-add-mod-self-right g (n + 1) m ∙ mod-eq-of-lt (omega arit
 
 module _ (t : Table) (c : List ℤ) (b : List ℕ) (img : IsImage t c b) where
   -- ---- each coefficient
-  coefficient-back : Ready t c → Fitted c → (i : ℕ) → i < t .count * (t .degree + 1) → coefficientAt b (i / (t .degree + 1)) (i % (t .degree + 1)) ≡ getD c i (pos 0)
+  coefficient-back : Ready t c → Fitted c → (i : ℕ) → i < t .count * (t .degree + 1)
+      → coefficientAt b (i / (t .degree + 1)) (i % (t .degree + 1)) ≡ getD c i (pos 0)
   unfolding coefficientAt
   coefficient-back r fit i h =
       let n = t .degree in

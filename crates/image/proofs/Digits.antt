@@ -19,10 +19,13 @@ halves : (n : ℕ) → n % 4294967296 + 4294967296 * (n / 4294967296 % 429496729
 halves n = omega arith
 
 -- a quotient's quotient
-again : (n : ℕ) → (n / 65536 / 256 ≡ n / 16777216) × (n / 4294967296 / 256 ≡ n / 1099511627776) × (n / 281474976710656 / 256 ≡ n / 72057594037927936) × (n / 4294967296 / 65536 ≡ n / 281474976710656)
+again : (n : ℕ) → (n / 65536 / 256 ≡ n / 16777216) × (n / 4294967296 / 256 ≡ n / 1099511627776) × (n / 281474976710656 / 256 ≡ n / 72057594037927936)
+    × (n / 4294967296 / 65536 ≡ n / 281474976710656)
 again n = (div-div-eq-div-mul n 65536 256, div-div-eq-div-mul n 4294967296 256, div-div-eq-div-mul n 281474976710656 256, div-div-eq-div-mul n 4294967296 65536)
 
-sum8 : (a b c d e f g k p q r s x y z n : ℕ) → a + 256 * b ≡ p → c + 256 * d ≡ q → e + 256 * f ≡ r → g + 256 * k ≡ s → p + 65536 * q ≡ x → r + 65536 * s ≡ y → x + 4294967296 * y ≡ z → z ≡ n → a + 256 * b + 65536 * c + 16777216 * d + 4294967296 * e + 1099511627776 * f + 281474976710656 * g + 72057594037927936 * k ≡ n
+sum8 : (a b c d e f g k p q r s x y z n : ℕ) → a + 256 * b ≡ p → c + 256 * d ≡ q → e + 256 * f ≡ r → g + 256 * k ≡ s → p + 65536 * q ≡ x → r + 65536 * s ≡ y
+    → x + 4294967296 * y ≡ z → z ≡ n
+    → a + 256 * b + 65536 * c + 16777216 * d + 4294967296 * e + 1099511627776 * f + 281474976710656 * g + 72057594037927936 * k ≡ n
 sum8 a b c d e f g k p q r s x y z n e1 e2 e3 e4 e5 e6 e7 e8 = omega arith
 
 bytes : (n : ℕ) → n < 2 ^ 64 → n % 256 + 256 * (n / 256 % 256) + 65536 * (n / 65536 % 256) + 16777216 * (n / 16777216 % 256) + 4294967296 * (n / 4294967296 % 256) + 1099511627776 * (n / 1099511627776 % 256) + 281474976710656 * (n / 281474976710656 % 256) + 72057594037927936 * (n / 72057594037927936 % 256) ≡ n
@@ -35,7 +38,8 @@ join4 : (p q r s x y z : ℕ) → p + 256 * q ≡ x → r + 256 * s ≡ y → x 
 join4 p q r s x y z e f g = omega arith
 
 -- four bytes, and eight, that are a number's are that number
-pub quad-back : (n p q r s : ℕ) → p ≡ n / 1 % 256 → q ≡ n / 256 % 256 → r ≡ n / 65536 % 256 → s ≡ n / 16777216 % 256 → p + 256 * q + 65536 * r + 16777216 * s ≡ n % 4294967296
+pub quad-back : (n p q r s : ℕ) → p ≡ n / 1 % 256 → q ≡ n / 256 % 256 → r ≡ n / 65536 % 256 → s ≡ n / 16777216 % 256
+    → p + 256 * q + 65536 * r + 16777216 * s ≡ n % 4294967296
 quad-back n p q r s hp hq hr hs =
     rw (hp, hq, hr, hs, div-one n) (join4 _ _ _ _ _ _ _ (pair n) (rw (div-div-eq-div-mul n 65536 256) at (pair (n / 65536))) (two n))
 
@@ -47,13 +51,15 @@ word-back b at n h z e =
     first n e = rw (div-one n) e
 
 -- ---- a number's bytes are what it was made of
-low4 : (a b c d x : ℕ) → a < 256 → b < 256 → c < 256 → d < 256 → x ≡ a + 256 * b + 65536 * c + 16777216 * d → (x < 4294967296) × (a ≡ x / 1 % 256) × (b ≡ x / 256 % 256) × (c ≡ x / 65536 % 256) × (d ≡ x / 16777216 % 256)
+low4 : (a b c d x : ℕ) → a < 256 → b < 256 → c < 256 → d < 256 → x ≡ a + 256 * b + 65536 * c + 16777216 * d
+    → (x < 4294967296) × (a ≡ x / 1 % 256) × (b ≡ x / 256 % 256) × (c ≡ x / 65536 % 256) × (d ≡ x / 16777216 % 256)
 low4 a b c d x ha hb hc hd e = omega arith
 
 parted : (x y w : ℕ) → x < 4294967296 → w ≡ x + 4294967296 * y → (w / 4294967296 ≡ y) × (w % 4294967296 ≡ x)
 parted x y w h e = omega arith
 
-lows : (w : ℕ) → (w % 4294967296 / 1 % 256 ≡ w / 1 % 256) × (w % 4294967296 / 256 % 256 ≡ w / 256 % 256) × (w % 4294967296 / 65536 % 256 ≡ w / 65536 % 256) × (w % 4294967296 / 16777216 % 256 ≡ w / 16777216 % 256)
+lows : (w : ℕ) → (w % 4294967296 / 1 % 256 ≡ w / 1 % 256) × (w % 4294967296 / 256 % 256 ≡ w / 256 % 256) × (w % 4294967296 / 65536 % 256 ≡ w / 65536 % 256)
+    × (w % 4294967296 / 16777216 % 256 ≡ w / 16777216 % 256)
 lows w = (omega arith, omega arith, omega arith, omega arith)
 
 pub pick8 : (P : ℕ → Type 0) → P 0 → P 1 → P 2 → P 3 → P 4 → P 5 → P 6 → P 7 → (u : ℕ) → u < 8 → P u
@@ -75,7 +81,8 @@ module _ (a0 a1 a2 a3 a4 a5 a6 a7 w : ℕ) (h0 : a0 < 256) (h1 : a1 < 256) (h2 :
   abbrev hi : ℕ
   hi = a4 + 256 * a5 + 65536 * a6 + 16777216 * a7
 
-  pub digits : (a0 ≡ byteOf w 0) × (a1 ≡ byteOf w 1) × (a2 ≡ byteOf w 2) × (a3 ≡ byteOf w 3) × (a4 ≡ byteOf w 4) × (a5 ≡ byteOf w 5) × (a6 ≡ byteOf w 6) × (a7 ≡ byteOf w 7)
+  pub digits : (a0 ≡ byteOf w 0) × (a1 ≡ byteOf w 1) × (a2 ≡ byteOf w 2) × (a3 ≡ byteOf w 3) × (a4 ≡ byteOf w 4) × (a5 ≡ byteOf w 5) × (a6 ≡ byteOf w 6)
+      × (a7 ≡ byteOf w 7)
   digits =
       let x = low4 a0 a1 a2 a3 lo h0 h1 h2 h3 refl in
       let y = low4 a4 a5 a6 a7 hi h4 h5 h6 h7 refl in
@@ -91,7 +98,9 @@ module _ (a0 a1 a2 a3 a4 a5 a6 a7 w : ℕ) (h0 : a0 < 256) (h1 : a1 < 256) (h2 :
         y .4 ∙ ap (λ n. n / 16777216 % 256) (sym (v .0)) ∙ ap (λ n. n % 256) (div-div-eq-div-mul w 4294967296 16777216),
       )
     where
-      regroup : (a0 a1 a2 a3 a4 a5 a6 a7 : ℕ) → a0 + 256 * a1 + 65536 * a2 + 16777216 * a3 + 4294967296 * a4 + 1099511627776 * a5 + 281474976710656 * a6 + 72057594037927936 * a7 ≡ a0 + 256 * a1 + 65536 * a2 + 16777216 * a3 + 4294967296 * (a4 + 256 * a5 + 65536 * a6 + 16777216 * a7)
+      regroup : (a0 a1 a2 a3 a4 a5 a6 a7 : ℕ)
+          → a0 + 256 * a1 + 65536 * a2 + 16777216 * a3 + 4294967296 * a4 + 1099511627776 * a5 + 281474976710656 * a6 + 72057594037927936 * a7
+          ≡ a0 + 256 * a1 + 65536 * a2 + 16777216 * a3 + 4294967296 * (a4 + 256 * a5 + 65536 * a6 + 16777216 * a7)
       regroup a0 a1 a2 a3 a4 a5 a6 a7 = omega arith
 
 module _ (b : List ℕ) (small : (i : ℕ) → getD b i 0 < 256) where
@@ -103,7 +112,8 @@ module _ (b : List ℕ) (small : (i : ℕ) → getD b i 0 < 256) where
   pub word-fits : (at : ℕ) → wordAt b at < 2 ^ 64
   word-fits at = fits8 _ _ _ _ _ _ _ _ (small at) (small (at + 1)) (small (at + 2)) (small (at + 3)) (small (at + 4)) (small (at + 5)) (small (at + 6)) (small (at + 7))
     where
-      fits8 : (a0 a1 a2 a3 a4 a5 a6 a7 : ℕ) → a0 < 256 → a1 < 256 → a2 < 256 → a3 < 256 → a4 < 256 → a5 < 256 → a6 < 256 → a7 < 256 → a0 + 256 * a1 + 65536 * a2 + 16777216 * a3 + 4294967296 * a4 + 1099511627776 * a5 + 281474976710656 * a6 + 72057594037927936 * a7 < 2 ^ 64
+      fits8 : (a0 a1 a2 a3 a4 a5 a6 a7 : ℕ) → a0 < 256 → a1 < 256 → a2 < 256 → a3 < 256 → a4 < 256 → a5 < 256 → a6 < 256 → a7 < 256
+          → a0 + 256 * a1 + 65536 * a2 + 16777216 * a3 + 4294967296 * a4 + 1099511627776 * a5 + 281474976710656 * a6 + 72057594037927936 * a7 < 2 ^ 64
       fits8 a0 a1 a2 a3 a4 a5 a6 a7 h0 h1 h2 h3 h4 h5 h6 h7 = omega arith
 
   pub quad-byte : (at u : ℕ) → u < 4 → getD b (at + u) 0 ≡ byteOf (quadAt b at) u
@@ -126,7 +136,8 @@ zero-quad b at e (suc (suc (suc zero))) l = omega arith
 zero-quad b at e (suc (suc (suc (suc u)))) l = let z : ⊥ = omega arith in absurd z
 
 -- past m bytes that are 0, n more
-pub zero-more : (b : List ℕ) (at m n : ℕ) → ((u : ℕ) → u < m → from b at u ≡ 0) → ((u : ℕ) → u < n → from b (at + m) u ≡ 0) → (u : ℕ) → u < m + n → from b at u ≡ 0
+pub zero-more : (b : List ℕ) (at m n : ℕ) → ((u : ℕ) → u < m → from b at u ≡ 0) → ((u : ℕ) → u < n → from b (at + m) u ≡ 0) → (u : ℕ) → u < m + n
+    → from b at u ≡ 0
 zero-more b at m n h k u l = go (decLt u m)
   where
     go : Dec (u < m) → from b at u ≡ 0

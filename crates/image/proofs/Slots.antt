@@ -52,7 +52,8 @@ abbrev pub restAt : ℕ → ℕ → ℕ
 restAt n j = 8 * (n - whichAt j) + 8 - j % 8
 
 -- of granule q of the block, i bytes past byte u of coefficient w is still one of a coefficient
-still : (q w u n i : ℕ) → u < 8 → w ≤ n → n ≤ 15 → i < 8 * (n - w) + 8 - u → (16 * q ≤ (128 * q + 8 * w + u + i) / 8) × ((128 * q + 8 * w + u + i) / 8 ≤ 16 * q + n)
+still : (q w u n i : ℕ) → u < 8 → w ≤ n → n ≤ 15 → i < 8 * (n - w) + 8 - u
+    → (16 * q ≤ (128 * q + 8 * w + u + i) / 8) × ((128 * q + 8 * w + u + i) / 8 ≤ 16 * q + n)
 still q w u n i a b c d = (omega arith, omega arith)
 
 in-granule : (q n y : ℕ) → n ≤ 15 → 16 * q ≤ y → y ≤ 16 * q + n → (y / 16 ≡ q) × (y % 16 ≤ n)

@@ -58,14 +58,26 @@ module _ (b : List ℕ) (at x y : ℕ) (h : at + 512 ≤ length b) (ex : x ≡ c
       record {
         long = simp length-set;
         below = λ i g. off l3 i (at + 511) _ (omega arith) ∙ off l2 i (at + 510) _ (omega arith) ∙ off l1 i (at + 509) _ (omega arith) ∙ off b i (at + 508) _ (omega arith);
-        a0 = off l3 (at + 508) (at + 511) _ (omega arith) ∙ off l2 (at + 508) (at + 510) _ (omega arith) ∙ off l1 (at + 508) (at + 509) _ (omega arith) ∙ getD-set-same b (at + 508) _ 0 (omega arith) ∙ low x ∙ ap (λ n. byteOf n 0) ex;
-        a1 = off l3 (at + 509) (at + 511) _ (omega arith) ∙ off l2 (at + 509) (at + 510) _ (omega arith) ∙ getD-set-same l1 (at + 509) _ 0 (simp length-set (omega arith)) ∙ ap (λ n. byteOf n 1) ex;
+        a0 =
+            off l3 (at + 508) (at + 511) _ (omega arith)
+            ∙ off l2 (at + 508) (at + 510) _ (omega arith)
+            ∙ off l1 (at + 508) (at + 509) _ (omega arith)
+            ∙ getD-set-same b (at + 508) _ 0 (omega arith)
+            ∙ low x
+            ∙ ap (λ n. byteOf n 0) ex;
+        a1 =
+            off l3 (at + 509) (at + 511) _ (omega arith)
+            ∙ off l2 (at + 509) (at + 510) _ (omega arith)
+            ∙ getD-set-same l1 (at + 509) _ 0 (simp length-set (omega arith))
+            ∙ ap (λ n. byteOf n 1) ex;
         b0 = off l3 (at + 510) (at + 511) _ (omega arith) ∙ getD-set-same l2 (at + 510) _ 0 (simp length-set (omega arith)) ∙ low y ∙ ap (λ n. byteOf n 0) ey;
         b1 = getD-set-same l3 (at + 511) _ 0 (simp length-set (omega arith)) ∙ ap (λ n. byteOf n 1) ey;
       }
 
 -- ---- a block: its 508 bytes, then its check words
-pub four : (f : ℕ → ℕ) (b : List ℕ) (at : ℕ) → ((j : ℕ) → j < 508 → getD b (at + j) 0 ≡ f j) → getD b (at + 508) 0 ≡ byteOf (checkA f) 0 → getD b (at + 509) 0 ≡ byteOf (checkA f) 1 → getD b (at + 510) 0 ≡ byteOf (checkB f) 0 → getD b (at + 511) 0 ≡ byteOf (checkB f) 1 → (j : ℕ) → j < 512 → getD b (at + j) 0 ≡ blockByte f j
+pub four : (f : ℕ → ℕ) (b : List ℕ) (at : ℕ) → ((j : ℕ) → j < 508 → getD b (at + j) 0 ≡ f j) → getD b (at + 508) 0 ≡ byteOf (checkA f) 0
+    → getD b (at + 509) 0 ≡ byteOf (checkA f) 1 → getD b (at + 510) 0 ≡ byteOf (checkB f) 0 → getD b (at + 511) 0 ≡ byteOf (checkB f) 1 → (j : ℕ) → j < 512
+    → getD b (at + j) 0 ≡ blockByte f j
 unfolding blockByte
 four f b at e p q r s j h = go (decLt j 508) (decLt j 509) (decLt j 510) (decLt j 511)
   where
@@ -89,7 +101,8 @@ put-sealed f at b₀ b₁ b₂ p s =
     }
 
 -- ---- the image, a block more
-pub image-more : (t : Table) (c : List ℤ) (k : ℕ) (b b' : List ℕ) → ((i : ℕ) → i < k * 512 → getD b i 0 ≡ imageByte t c i) → Put (blockByte (bodyByte t c k)) (k * 512) 512 b b' → (i : ℕ) → i < (k + 1) * 512 → getD b' i 0 ≡ imageByte t c i
+pub image-more : (t : Table) (c : List ℤ) (k : ℕ) (b b' : List ℕ) → ((i : ℕ) → i < k * 512 → getD b i 0 ≡ imageByte t c i)
+    → Put (blockByte (bodyByte t c k)) (k * 512) 512 b b' → (i : ℕ) → i < (k + 1) * 512 → getD b' i 0 ≡ imageByte t c i
 unfolding imageByte
 image-more t c k b b' e p i h = go (decLt i (k * 512))
   where

@@ -27,7 +27,8 @@ module _ (b : List ℕ) (at i q : ℕ) (small : (j : ℕ) → getD b j 0 < 256) 
       p3 : at + 4 * i + 3 ≡ at + (2 * (2 * i + 1) + 1)
       p3 = omega arith
 
-      halves : (b0 b1 b2 b3 q : ℕ) → b0 < 256 → b1 < 256 → q ≡ b0 + 256 * b1 + 65536 * b2 + 16777216 * b3 → (q % 65536 ≡ b0 + 256 * b1) × (q / 65536 ≡ b2 + 256 * b3)
+      halves : (b0 b1 b2 b3 q : ℕ) → b0 < 256 → b1 < 256 → q ≡ b0 + 256 * b1 + 65536 * b2 + 16777216 * b3
+          → (q % 65536 ≡ b0 + 256 * b1) × (q / 65536 ≡ b2 + 256 * b3)
       halves b0 b1 b2 b3 q h k e = omega arith
 
 sumA-more : (f : ℕ → ℕ) (i p x : ℕ) → p ≡ sumA f i → x ≡ wordOf f i → p + x ≡ sumA f (i + 1)
@@ -46,12 +47,15 @@ sumA-two f i p x y e d h =
     t ∙ sumA-more f (2 * i + 1) (p + x) y (sumA-more f (2 * i) p x e d) h ∙ ap (sumA f) n
 
 -- both with the weight w of the first, so that p is more by the second words
-pub sumB-two : (f : ℕ → ℕ) (i p s w x y : ℕ) → i < 127 → w + 2 * i ≡ 254 → p ≡ sumB f (2 * i) + s → x ≡ wordOf f (2 * i) → y ≡ wordOf f (2 * i + 1) → p + w * (x + y) ≡ sumB f (2 * (i + 1)) + (s + y)
+pub sumB-two : (f : ℕ → ℕ) (i p s w x y : ℕ) → i < 127 → w + 2 * i ≡ 254 → p ≡ sumB f (2 * i) + s → x ≡ wordOf f (2 * i) → y ≡ wordOf f (2 * i + 1)
+    → p + w * (x + y) ≡ sumB f (2 * (i + 1)) + (s + y)
 sumB-two f i p s w x y l t e d h =
     let n : 2 * i + 1 + 1 ≡ 2 * (i + 1) = omega arith in
     let a : w ≡ 254 - 2 * i = omega arith in
     let b : w ≡ 254 - (2 * i + 1) + 1 = omega arith in
-    apart (sumB f (2 * i)) p s w (254 - (2 * i + 1)) x y b e ∙ ap (λ (v : ℕ). sumB f (2 * i) + v * x + (254 - (2 * i + 1)) * y + (s + y)) a ∙ ap (λ (v : ℕ). v + (s + y)) (sumB-more f (2 * i + 1) (sumB f (2 * i) + (254 - 2 * i) * x) y (sumB-more f (2 * i) _ x refl d) h ∙ ap (sumB f) n)
+    apart (sumB f (2 * i)) p s w (254 - (2 * i + 1)) x y b e
+    ∙ ap (λ (v : ℕ). sumB f (2 * i) + v * x + (254 - (2 * i + 1)) * y + (s + y)) a
+    ∙ ap (λ (v : ℕ). v + (s + y)) (sumB-more f (2 * i + 1) (sumB f (2 * i) + (254 - 2 * i) * x) y (sumB-more f (2 * i) _ x refl d) h ∙ ap (sumB f) n)
   where
     apart : (q p s w v x y : ℕ) → w ≡ v + 1 → p ≡ q + s → p + w * (x + y) ≡ q + w * x + v * y + (s + y)
     apart q p s w v x y e d = rw (e, d) (omega arith)

@@ -16,7 +16,8 @@ length-with out at text h = simp (length-append, length-take, length-drop) (omeg
 -- one byte
 pub with-byte : (out : List ℕ) (at byte : ℕ) → at < length out → set out at byte ≡ withText out at (byte ∷ [])
 unfolding withText
-with-byte out at byte h = set-split out at byte h ∙ sym (append-snoc (take at out) byte (drop (at + 1) out) ∙ ap (λ (n : ℕ). take at out ++ byte ∷ drop n out) (add-one at))
+with-byte out at byte h =
+    set-split out at byte h ∙ sym (append-snoc (take at out) byte (drop (at + 1) out) ∙ ap (λ (n : ℕ). take at out ++ byte ∷ drop n out) (add-one at))
 
 -- a byte after the text's place, and then the text
 pub with-last : (out : List ℕ) (at : ℕ) (text : List ℕ) (byte : ℕ) → at + length text < length out
@@ -71,7 +72,8 @@ module _ {out : List ℕ} {at : ℕ} {text left : List ℕ} {next : ℕ} (put : 
   pub place-inside : at + length text < length out → next < length left
   place-inside h = omega (arith, kept (omega arith), put .after)
 
-  pub then-text : {more last : List ℕ} {end : ℕ} → Put left next more last end → at + length text + length more ≤ length out → Put out at (text ++ more) last end
+  pub then-text : {more last : List ℕ} {end : ℕ} → Put left next more last end → at + length text + length more ≤ length out
+      → Put out at (text ++ more) last end
   then-text {more} p h = put-both out at text more (omega (arith, length-append text more)) put p
 
   pub then-byte : (byte : ℕ) → at + length text < length out → Put out at (text ++ (byte ∷ [])) (set left next byte) (next + 1)

@@ -78,11 +78,13 @@ pub onward-end : (value end : ℕ) → capped value ≡ value → onward value e
 unfolding onward digitsOf valueFrom
 onward-end value end c = let e : end + 0 ≡ end = omega arith in rw (c, e)
 
-pub onward-stop : (value end byte : ℕ) (more : List ℕ) → isDigit byte ≡ false → capped value ≡ value → onward value end (byte ∷ more) ≡ record { value = value; end = end }
+pub onward-stop : (value end byte : ℕ) (more : List ℕ) → isDigit byte ≡ false → capped value ≡ value
+    → onward value end (byte ∷ more) ≡ record { value = value; end = end }
 unfolding onward digitsOf valueFrom
 onward-stop value end byte more d c = let e : end + 0 ≡ end = omega arith in rw (d, c, e)
 
-pub onward-digit : (value end byte : ℕ) (more : List ℕ) → isDigit byte ≡ true → onward value end (byte ∷ more) ≡ onward (capped (10 * value + (byte - 48))) (end + 1) more
+pub onward-digit : (value end byte : ℕ) (more : List ℕ) → isDigit byte ≡ true
+    → onward value end (byte ∷ more) ≡ onward (capped (10 * value + (byte - 48))) (end + 1) more
 unfolding onward digitsOf valueFrom
 onward-digit value end byte more d =
     let e : end + suc (length (digitsOf more)) ≡ end + 1 + length (digitsOf more) = omega arith in
@@ -146,6 +148,7 @@ pub none-long : (negative : Bool) (text : List ℕ) → 20 < length text → dig
 unfolding digitsNumber
 none-long negative text h = simp (lt-leb (length text) 20 h, and-false)
 
-pub some-digits : (negative : Bool) (text : List ℕ) → 1 ≤ length text → length text ≤ 20 → allDigits text ≡ true → digitsNumber negative text ≡ fitting (signed negative (valueOf text))
+pub some-digits : (negative : Bool) (text : List ℕ) → 1 ≤ length text → length text ≤ 20 → allDigits text ≡ true
+    → digitsNumber negative text ≡ fitting (signed negative (valueOf text))
 unfolding digitsNumber
 some-digits negative text l h e = rw (le-leb 1 (length text) l, le-leb (length text) 20 h, e)

@@ -37,7 +37,8 @@ module _ (refusal : Refusal) (one other : List ℤ) where
   asked-any (A.Crossing from to) read = refl
   asked-any (A.Refused r) read = refl
 
-  converted-any : (from to : ℕ) (reading : Reading) → convertJudged from to reading (J.Refused refusal) one ≡ convertJudged from to reading (J.Refused refusal) other
+  converted-any : (from to : ℕ) (reading : Reading)
+      → convertJudged from to reading (J.Refused refusal) one ≡ convertJudged from to reading (J.Refused refusal) other
   unfolding convertJudged
   converted-any from to reading = asked-any (askedOf from to true) (readOf reading)
 
@@ -67,7 +68,8 @@ module _ (bytes : List ℕ) (pieces : List (List ℕ)) where
 
 -- ---- a line's number is not printed
 module _ (table : Judged) (coefficients : List ℤ) where
-  numbers-any : (numbers : List (Option ℤ)) (one other : ℕ) → answerTo table coefficients (three numbers one) ≡ answerTo table coefficients (three numbers other)
+  numbers-any : (numbers : List (Option ℤ)) (one other : ℕ)
+      → answerTo table coefficients (three numbers one) ≡ answerTo table coefficients (three numbers other)
   numbers-any [] one other = refl
   numbers-any (none ∷ more) one other = refl
   numbers-any (some from ∷ []) one other = refl

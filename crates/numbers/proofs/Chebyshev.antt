@@ -135,7 +135,8 @@ swap = all₂ _ (λ ρ. simp quote (ring ρ _ _ tt))
 
 pub E-scale : (p : ℤ) (H G k : ℕ) → E (p *ℤ pos G) (pos (H * G)) k ≡ pos (G ^ k) *ℤ E p (pos H) k
 E-scale p H G zero = rw (E-zero (p *ℤ pos G) (pos (H * G)), E-zero p (pos H), pow-zero G)
-E-scale p H G (suc zero) = rw (E-one (p *ℤ pos G) (pos (H * G)), E-one p (pos H), pow-succ' G 0, pow-zero G) (swap p (pos G) ∙ ap (λ (n : ℕ). pos n *ℤ p) (omega arith))
+E-scale p H G (suc zero) =
+    rw (E-one (p *ℤ pos G) (pos (H * G)), E-one p (pos H), pow-succ' G 0, pow-zero G) (swap p (pos G) ∙ ap (λ (n : ℕ). pos n *ℤ p) (omega arith))
 E-scale p H G (suc (suc k)) = rw (E-rec (p *ℤ pos G) (pos (H * G)) k, E-scale p H G (suc k), E-scale p H G k, E-rec p (pos H) k, pow-succ' G (suc k), pow-succ' G k)
     (scale-id p (pos H) (pos G) (pos (G ^ k)) (E p (pos H) (suc k)) (E p (pos H) k))
 

@@ -112,7 +112,8 @@ upTo-at f (suc n) zero d h = refl
 upTo-at f (suc n) (suc i) d h = upTo-at (λ j. f (suc j)) n i d (le-of-suc-le-suc h)
 
 pub is-upTo : {A : Type 0} (f : ℕ → A) (n : ℕ) (d : A) (l : List A) → length l ≡ n → ((i : ℕ) → i < n → getD l i d ≡ f i) → l ≡ upTo f n
-is-upTo f n d l e h = ext-getD d l (upTo f n) (e ∙ sym (upTo-length f n)) (λ i k. h i (subst (λ (m : ℕ). i < m) e k) ∙ sym (upTo-at f n i d (subst (λ (m : ℕ). i < m) e k)))
+is-upTo f n d l e h =
+    ext-getD d l (upTo f n) (e ∙ sym (upTo-length f n)) (λ i k. h i (subst (λ (m : ℕ). i < m) e k) ∙ sym (upTo-at f n i d (subst (λ (m : ℕ). i < m) e k)))
 
 pub upTo-same : {A : Type 0} (f g : ℕ → A) (n : ℕ) → ((i : ℕ) → i < n → f i ≡ g i) → upTo f n ≡ upTo g n
 unfolding upTo
@@ -128,6 +129,7 @@ map-at f [] d e i h = absurd (not-suc-le-zero h)
 map-at f (a ∷ l) d e zero h = refl
 map-at f (a ∷ l) d e (suc i) h = map-at f l d e i (le-of-suc-le-suc h)
 
-pub is-map : {A B : Type 0} (f : A → B) (l : List A) (m : List B) (d : A) (e : B) → length m ≡ length l → ((i : ℕ) → i < length l → getD m i e ≡ f (getD l i d)) → m ≡ map f l
+pub is-map : {A B : Type 0} (f : A → B) (l : List A) (m : List B) (d : A) (e : B) → length m ≡ length l → ((i : ℕ) → i < length l → getD m i e ≡ f (getD l i d))
+    → m ≡ map f l
 is-map f l m d e long each =
     ext-getD e m (map f l) (long ∙ sym (length-map l f)) (λ i h. let k = subst (λ (n : ℕ). i < n) long h in each i k ∙ sym (map-at f l d e i k))

@@ -44,7 +44,8 @@ crossed : (x y z w : ℤ) → x ≤ℤ y → z ≤ℤ x → y <ℤ w → w ≤�
 crossed = rep₄ _ (λ a b c d e f g h. simp lin (omega arith))
 
 in-order : (x y q f : ℤ) (d : ℕ) → x ≤ℤ y → Floored x d q → Floored y d f → q ≤ℤ f
-in-order x y q f d l a b = ⊎-elim (λ (h : q ≤ℤ f). h) (λ (h : f <ℤ q). absurd (crossed x y (pos d *ℤ q) (pos d *ℤ f +ℤ pos d) l (a .under) (b .above) (next-up d q f h))) (≤-total q f)
+in-order x y q f d l a b =
+    ⊎-elim (λ (h : q ≤ℤ f). h) (λ (h : f <ℤ q). absurd (crossed x y (pos d *ℤ q) (pos d *ℤ f +ℤ pos d) l (a .under) (b .above) (next-up d q f h))) (≤-total q f)
 
 pub floor-is : (x q : ℤ) (d : ℕ) → 0 < d → Floored x d q → floorDiv x d ≡ q
 floor-is x q d h a =
@@ -103,7 +104,8 @@ within-half z d h = let n = near z d h in halved d (pos d *ℤ nearest z d) z (n
 carried-under : (d : ℕ) (z q k : ℤ) → (pos 2 *ℤ (pos d *ℤ q)) ≤ℤ (pos 2 *ℤ z +ℤ pos d) → (pos 2 *ℤ (pos d *ℤ (q +ℤ k))) ≤ℤ (pos 2 *ℤ (z +ℤ pos d *ℤ k) +ℤ pos d)
 carried-under d = rep₃ _ (λ a b c e f g. simp lin (omega arith))
 
-carried-above : (d : ℕ) (z q k : ℤ) → (pos 2 *ℤ z +ℤ pos d) <ℤ (pos 2 *ℤ (pos d *ℤ q) +ℤ pos 2 *ℤ pos d) → (pos 2 *ℤ (z +ℤ pos d *ℤ k) +ℤ pos d) <ℤ (pos 2 *ℤ (pos d *ℤ (q +ℤ k)) +ℤ pos 2 *ℤ pos d)
+carried-above : (d : ℕ) (z q k : ℤ) → (pos 2 *ℤ z +ℤ pos d) <ℤ (pos 2 *ℤ (pos d *ℤ q) +ℤ pos 2 *ℤ pos d)
+    → (pos 2 *ℤ (z +ℤ pos d *ℤ k) +ℤ pos d) <ℤ (pos 2 *ℤ (pos d *ℤ (q +ℤ k)) +ℤ pos 2 *ℤ pos d)
 carried-above d = rep₃ _ (λ a b c e f g. simp lin (omega arith))
 
 -- a multiple of the divisor goes through
@@ -131,7 +133,8 @@ nearest-reduced z d g h k =
     low : (z q : ℤ) → (pos 2 *ℤ (pos d *ℤ q)) ≤ℤ (pos 2 *ℤ z +ℤ pos d) → (pos 2 *ℤ (pos (g * d) *ℤ q)) ≤ℤ (pos 2 *ℤ (pos g *ℤ z) +ℤ pos (g * d))
     low = rep₂ _ (λ a b c e. simp lin (λ h. omega (arith, mul-le-mul-right g h)))
 
-    high : (z q : ℤ) → (pos 2 *ℤ z +ℤ pos d) <ℤ (pos 2 *ℤ (pos d *ℤ q) +ℤ pos 2 *ℤ pos d) → (pos 2 *ℤ (pos g *ℤ z) +ℤ pos (g * d)) <ℤ (pos 2 *ℤ (pos (g * d) *ℤ q) +ℤ pos 2 *ℤ pos (g * d))
+    high : (z q : ℤ) → (pos 2 *ℤ z +ℤ pos d) <ℤ (pos 2 *ℤ (pos d *ℤ q) +ℤ pos 2 *ℤ pos d)
+        → (pos 2 *ℤ (pos g *ℤ z) +ℤ pos (g * d)) <ℤ (pos 2 *ℤ (pos (g * d) *ℤ q) +ℤ pos 2 *ℤ pos (g * d))
     high = rep₂ _ (λ a b c e. simp lin (λ h. omega (arith, mul-le-mul-right g h)))
 
 -- equal fractions, z / b and w / d, are rounded alike
@@ -189,7 +192,8 @@ floor-small (negsuc n) d m h k =
     let l : n / d < m = lt-of-mul-lt-mul-left d (omega (arith, div-add-mod' n d, mul-comm d (n / d))) in omega arith
 
 -- ---- a divisor by two floors: half of what the first leaves of it is added before the second
-cut-under : (d half : ℕ) (x f q : ℤ) → (pos (2 * half) *ℤ q) ≤ℤ (f +ℤ pos half) → (pos d *ℤ f) ≤ℤ x → (pos 2 *ℤ (pos (d * (2 * half)) *ℤ q)) ≤ℤ (pos 2 *ℤ x +ℤ pos (d * (2 * half)))
+cut-under : (d half : ℕ) (x f q : ℤ) → (pos (2 * half) *ℤ q) ≤ℤ (f +ℤ pos half) → (pos d *ℤ f) ≤ℤ x
+    → (pos 2 *ℤ (pos (d * (2 * half)) *ℤ q)) ≤ℤ (pos 2 *ℤ x +ℤ pos (d * (2 * half)))
 cut-under d half = rep₃ _ (λ a b c e g i. simp lin (λ h k. omega (arith, mul-le-mul-left d h)))
 
 cut-above : (d half : ℕ) (x f q : ℤ) → (f +ℤ pos half) <ℤ (pos (2 * half) *ℤ q +ℤ pos (2 * half)) → x <ℤ (pos d *ℤ f +ℤ pos d)
@@ -208,7 +212,8 @@ pub nearest-twice : (z : ℤ) (d : ℕ) → 0 < d → nearest z (2 * d) ≡ floo
 nearest-twice z d h = ap (nearest z) (mul-comm 2 d) ∙ nearest-cut z d 1 h (lit< tt)
 
 -- ---- a product u·b with b split at d: where b = d·h + l, its floor is u·h + ⌊u·l / d⌋, and with d = 2·half its nearest is u·h + ⌊(u·l + half) / d⌋
-split-under : (half : ℕ) (ul q uh : ℤ) → (pos (2 * half) *ℤ q) ≤ℤ (ul +ℤ pos half) → (pos 2 *ℤ (pos (2 * half) *ℤ (uh +ℤ q))) ≤ℤ (pos 2 *ℤ (pos (2 * half) *ℤ uh +ℤ ul) +ℤ pos (2 * half))
+split-under : (half : ℕ) (ul q uh : ℤ) → (pos (2 * half) *ℤ q) ≤ℤ (ul +ℤ pos half)
+    → (pos 2 *ℤ (pos (2 * half) *ℤ (uh +ℤ q))) ≤ℤ (pos 2 *ℤ (pos (2 * half) *ℤ uh +ℤ ul) +ℤ pos (2 * half))
 split-under half = rep₃ _ (λ a b c d e f. simp lin (omega arith))
 
 split-above : (half : ℕ) (ul q uh : ℤ) → (ul +ℤ pos half) <ℤ (pos (2 * half) *ℤ q +ℤ pos (2 * half))
@@ -224,7 +229,8 @@ floor-split u b h d k =
     ∙ sym (floor-plus (u *ℤ (b -ℤ pos d *ℤ h)) (u *ℤ h) d k)
     ∙ ap (λ (x : ℤ). floorDiv x d) (+ℤ-comm (u *ℤ (b -ℤ pos d *ℤ h)) (pos d *ℤ (u *ℤ h)) ∙ split (pos d) u b h)
 
-pub nearest-split : (u b h : ℤ) (half : ℕ) → 0 < half → u *ℤ h +ℤ floorDiv (u *ℤ (b -ℤ pos (2 * half) *ℤ h) +ℤ pos half) (2 * half) ≡ nearest (u *ℤ b) (2 * half)
+pub nearest-split : (u b h : ℤ) (half : ℕ) → 0 < half
+    → u *ℤ h +ℤ floorDiv (u *ℤ (b -ℤ pos (2 * half) *ℤ h) +ℤ pos half) (2 * half) ≡ nearest (u *ℤ b) (2 * half)
 nearest-split u b h half k =
     let d = 2 * half in
     let ul = u *ℤ (b -ℤ pos d *ℤ h) in

@@ -126,7 +126,8 @@ mono-pick Ordering·gt x y ρ v p q = q
 mono-put : (i : ℕ) (m : List ℕ) (ρ : List ℤ) → mono (put i m) ρ ≡ nth ρ i *ℤ mono m ρ
 unfolding mono
 mono-put i [] ρ = refl
-mono-put i (j ∷ m) ρ = mono-pick (compare i j) (i ∷ j ∷ m) (j ∷ put i m) ρ _ refl (ap (λ t. nth ρ j *ℤ t) (mono-put i m ρ) ∙ *-left-comm (nth ρ j) (nth ρ i) (mono m ρ))
+mono-put i (j ∷ m) ρ =
+    mono-pick (compare i j) (i ∷ j ∷ m) (j ∷ put i m) ρ _ refl (ap (λ t. nth ρ j *ℤ t) (mono-put i m ρ) ∙ *-left-comm (nth ρ j) (nth ρ i) (mono m ρ))
 
 mono-join : (m n : List ℕ) (ρ : List ℤ) → mono (join m n) ρ ≡ mono m ρ *ℤ mono n ρ
 unfolding mono
@@ -160,7 +161,8 @@ total-ins c m (more d n p) ρ = total-pick (cmp m n) (more c m (more d n p)) (mo
 total-plus : (p q : Poly) (ρ : List ℤ) → total (plus p q) ρ ≡ total p ρ +ℤ total q ρ
 unfolding total
 total-plus none q ρ = sym (+ℤ-idl (total q ρ))
-total-plus (more c m p) q ρ = total-ins c m (plus p q) ρ ∙ ap (λ u. c *ℤ mono m ρ +ℤ u) (total-plus p q ρ) ∙ sym (+ℤ-assoc (c *ℤ mono m ρ) (total p ρ) (total q ρ))
+total-plus (more c m p) q ρ =
+    total-ins c m (plus p q) ρ ∙ ap (λ u. c *ℤ mono m ρ +ℤ u) (total-plus p q ρ) ∙ sym (+ℤ-assoc (c *ℤ mono m ρ) (total p ρ) (total q ρ))
 
 shuffle : (c d x y : ℤ) → (c *ℤ d) *ℤ (x *ℤ y) ≡ (c *ℤ x) *ℤ (d *ℤ y)
 shuffle c d x y = *-assoc c d (x *ℤ y) ∙ ap (λ u. c *ℤ u) (*-left-comm d x y) ∙ sym (*-assoc c x (d *ℤ y))
@@ -169,12 +171,14 @@ total-scale : (c : ℤ) (m : List ℕ) (p q : Poly) (ρ : List ℤ) → total (s
 unfolding total
 total-scale c m none q ρ = sym (ap (λ u. u +ℤ total q ρ) (*ℤ-zero (c *ℤ mono m ρ)) ∙ +ℤ-idl (total q ρ))
 total-scale c m (more d n p) q ρ = total-ins (c *ℤ d) (join m n) (scale c m p q) ρ ∙ ap₂ _+ℤ_ (ap (λ u. c *ℤ d *ℤ u) (mono-join m n ρ) ∙ shuffle c d (mono m ρ) (mono n ρ)) (total-scale c m p q ρ)
-    ∙ sym (+ℤ-assoc (c *ℤ mono m ρ *ℤ (d *ℤ mono n ρ)) (c *ℤ mono m ρ *ℤ total p ρ) (total q ρ)) ∙ ap (λ u. u +ℤ total q ρ) (sym (*-dist (c *ℤ mono m ρ) (d *ℤ mono n ρ) (total p ρ)))
+    ∙ sym (+ℤ-assoc (c *ℤ mono m ρ *ℤ (d *ℤ mono n ρ)) (c *ℤ mono m ρ *ℤ total p ρ) (total q ρ))
+    ∙ ap (λ u. u +ℤ total q ρ) (sym (*-dist (c *ℤ mono m ρ) (d *ℤ mono n ρ) (total p ρ)))
 
 total-times : (p q : Poly) (ρ : List ℤ) → total (times p q) ρ ≡ total p ρ *ℤ total q ρ
 unfolding total
 total-times none q ρ = sym (zero-*ℤ (total q ρ))
-total-times (more c m p) q ρ = total-scale c m q (times p q) ρ ∙ ap (λ u. c *ℤ mono m ρ *ℤ total q ρ +ℤ u) (total-times p q ρ) ∙ sym (dist-* (c *ℤ mono m ρ) (total p ρ) (total q ρ))
+total-times (more c m p) q ρ =
+    total-scale c m q (times p q) ρ ∙ ap (λ u. c *ℤ mono m ρ *ℤ total q ρ +ℤ u) (total-times p q ρ) ∙ sym (dist-* (c *ℤ mono m ρ) (total p ρ) (total q ρ))
 
 total-minus : (p : Poly) (ρ : List ℤ) → total (minus p) ρ ≡ negℤ (total p ρ)
 unfolding total
@@ -253,19 +257,23 @@ pub all₅ : (P : ℤ → ℤ → ℤ → ℤ → ℤ → Type 0) → ((ρ : Lis
 unfolding nth
 all₅ P f x y z w v = f (x ∷ y ∷ z ∷ w ∷ v ∷ [])
 
-pub all₆ : (P : ℤ → ℤ → ℤ → ℤ → ℤ → ℤ → Type 0) → ((ρ : List ℤ) → P (nth ρ 0) (nth ρ 1) (nth ρ 2) (nth ρ 3) (nth ρ 4) (nth ρ 5)) → (x y z w v u : ℤ) → P x y z w v u
+pub all₆ : (P : ℤ → ℤ → ℤ → ℤ → ℤ → ℤ → Type 0) → ((ρ : List ℤ) → P (nth ρ 0) (nth ρ 1) (nth ρ 2) (nth ρ 3) (nth ρ 4) (nth ρ 5)) → (x y z w v u : ℤ)
+    → P x y z w v u
 unfolding nth
 all₆ P f x y z w v u = f (x ∷ y ∷ z ∷ w ∷ v ∷ u ∷ [])
 
-pub all₇ : (P : ℤ → ℤ → ℤ → ℤ → ℤ → ℤ → ℤ → Type 0) → ((ρ : List ℤ) → P (nth ρ 0) (nth ρ 1) (nth ρ 2) (nth ρ 3) (nth ρ 4) (nth ρ 5) (nth ρ 6)) → (x y z w v u t : ℤ) → P x y z w v u t
+pub all₇ : (P : ℤ → ℤ → ℤ → ℤ → ℤ → ℤ → ℤ → Type 0) → ((ρ : List ℤ) → P (nth ρ 0) (nth ρ 1) (nth ρ 2) (nth ρ 3) (nth ρ 4) (nth ρ 5) (nth ρ 6))
+    → (x y z w v u t : ℤ) → P x y z w v u t
 unfolding nth
 all₇ P f x y z w v u t = f (x ∷ y ∷ z ∷ w ∷ v ∷ u ∷ t ∷ [])
 
-pub all₈ : (P : ℤ → ℤ → ℤ → ℤ → ℤ → ℤ → ℤ → ℤ → Type 0) → ((ρ : List ℤ) → P (nth ρ 0) (nth ρ 1) (nth ρ 2) (nth ρ 3) (nth ρ 4) (nth ρ 5) (nth ρ 6) (nth ρ 7)) → (x y z w v u t s : ℤ) → P x y z w v u t s
+pub all₈ : (P : ℤ → ℤ → ℤ → ℤ → ℤ → ℤ → ℤ → ℤ → Type 0) → ((ρ : List ℤ) → P (nth ρ 0) (nth ρ 1) (nth ρ 2) (nth ρ 3) (nth ρ 4) (nth ρ 5) (nth ρ 6) (nth ρ 7))
+    → (x y z w v u t s : ℤ) → P x y z w v u t s
 unfolding nth
 all₈ P f x y z w v u t s = f (x ∷ y ∷ z ∷ w ∷ v ∷ u ∷ t ∷ s ∷ [])
 
-pub all₉ : (P : ℤ → ℤ → ℤ → ℤ → ℤ → ℤ → ℤ → ℤ → ℤ → Type 0) → ((ρ : List ℤ) → P (nth ρ 0) (nth ρ 1) (nth ρ 2) (nth ρ 3) (nth ρ 4) (nth ρ 5) (nth ρ 6) (nth ρ 7) (nth ρ 8))
+pub all₉ : (P : ℤ → ℤ → ℤ → ℤ → ℤ → ℤ → ℤ → ℤ → ℤ → Type 0)
+    → ((ρ : List ℤ) → P (nth ρ 0) (nth ρ 1) (nth ρ 2) (nth ρ 3) (nth ρ 4) (nth ρ 5) (nth ρ 6) (nth ρ 7) (nth ρ 8))
     → (x y z w v u t s r : ℤ) → P x y z w v u t s r
 unfolding nth
 all₉ P f x y z w v u t s r = f (x ∷ y ∷ z ∷ w ∷ v ∷ u ∷ t ∷ s ∷ r ∷ [])

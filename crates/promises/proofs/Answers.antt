@@ -62,7 +62,8 @@ module _ (from to : ℕ) (reading : Reading) (bytes : List ℕ) (e : Epoch) (n :
 pub four-at-most : (from to : Scale) → steps from to ≤ 4
 four-at-most = within 4
   where
-    on : (most : ℕ) (to : Scale) → ((from : Scale) → length (pathWithin most from to) ≤ most) → (way : Way) → length (path.walked (λ scale. pathWithin most scale to) way) ≤ suc most
+    on : (most : ℕ) (to : Scale) → ((from : Scale) → length (pathWithin most from to) ≤ most) → (way : Way)
+        → length (path.walked (λ scale. pathWithin most scale to) way) ≤ suc most
     on most to rest Here = omega arith
     on most to rest (By step) = let h = rest (end step) in omega arith
 

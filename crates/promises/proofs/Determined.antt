@@ -1,6 +1,6 @@
 -- 'Each public function's contract determines the complete answer and the final content of all lent buffers .. Any two results it admits are proved equal.'
--- It is stated of `Learnt`, which is what a caller learns from the contract itself. Every public function of every library has its line, in the order of crates.txt
--- and of the sources. Assumes nothing.
+-- It is stated of `Learnt`, which is what a caller learns from the contract itself. Every public function of every library has its line, in the order of
+-- crates.txt and of the sources. Assumes nothing.
 use mathlib.Core.Path.{_≡_, sym, _∙_, ap, ap₂}
 use mathlib.Core.List.{List, _++_}
 use Prim.Native.Nat.{ℕ}

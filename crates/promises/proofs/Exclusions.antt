@@ -1,5 +1,5 @@
--- What the definitions shut out: 'refusing always, the same tick always, a batch that writes nothing, a batch that converts its first entry and copies the rest, and
--- a step count not equal to the path's length'. Assumes nothing.
+-- What the definitions shut out: 'refusing always, the same tick always, a batch that writes nothing, a batch that converts its first entry and copies the
+-- rest, and a step count not equal to the path's length'. Assumes nothing.
 use mathlib.Core.Path.{_≡_, refl, _∙_}
 use mathlib.Core.Bool.{true}
 use mathlib.Core.List.{List, [], _∷_}

@@ -60,7 +60,8 @@ known-held =
     sym (is-new _ knownTable _ _ (r .0)) ∙ r .1
 
 -- TDB at the first tick, at the last and at the one before it
-ends : (tdbAt knownTable knownCoefficients 0 ≡ pos 1) × (tdbAt knownTable knownCoefficients 999999999 ≡ pos 999999998) × (tdbAt knownTable knownCoefficients 1000000000 ≡ pos 999999999)
+ends : (tdbAt knownTable knownCoefficients 0 ≡ pos 1) × (tdbAt knownTable knownCoefficients 999999999 ≡ pos 999999998)
+    × (tdbAt knownTable knownCoefficients 1000000000 ≡ pos 999999999)
 unfolding knownTable knownCoefficients tdbAt tdbOf tickAt placeOf tableDelay coefficientsOf granuleOf placeIn delayAt delayOf valueAt vOf bAt bFrom uOf pOf nearest floorDiv
 ends = (refl, refl, refl)
 

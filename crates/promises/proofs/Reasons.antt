@@ -39,7 +39,8 @@ module _ (kept : Kept) (cs : List ℤ) where
         stopped = s .stopped;
       }
 
-  here : (step : Step) (more : List Step) (scale : Scale) (already : ℕ) (t : ℤ) (by : Stepped) → stepOf kept cs step t ≡ by → Stopped kept cs (step ∷ more) scale already t already by
+  here : (step : Step) (more : List Step) (scale : Scale) (already : ℕ) (t : ℤ) (by : Stepped) → stepOf kept cs step t ≡ by
+      → Stopped kept cs (step ∷ more) scale already t already by
   unfolding walkOf
   here step more scale already t by e =
       record { before = []; last = step; after = more; split = refl; epoch = record { scale = scale; tick = t }; walked = refl; stopped = e }
@@ -49,12 +50,14 @@ module _ (kept : Kept) (cs : List ℤ) where
   further-ended step more scale already t u r e (outside-table n s) = outside-table n (further step more scale already t u (r .place) OutsideTable e s)
   further-ended step more scale already t u r e (outside-range done n p s) = outside-range done n p (further step more scale already t u done OutsideRange e s)
 
-  walk-ended : (p : List Step) (scale : Scale) (already : ℕ) (t : ℤ) (r : Refusal) → walkOf kept cs p scale already t ≡ Refused r → Ended kept cs p scale already t r
+  walk-ended : (p : List Step) (scale : Scale) (already : ℕ) (t : ℤ) (r : Refusal) → walkOf kept cs p scale already t ≡ Refused r
+      → Ended kept cs p scale already t r
   unfolding walkOf numberOf placeOf
   walk-ended [] scale already t r e = apart (sym e)
   walk-ended (step ∷ more) scale already t r e = by (λ u. walk-ended more (end step) (suc already) u r) (stepOf kept cs step t) refl e
     where
-      by : ((u : ℤ) → walkOf kept cs more (end step) (suc already) u ≡ Refused r → Ended kept cs more (end step) (suc already) u r) → (stepped : Stepped) → stepOf kept cs step t ≡ stepped
+      by : ((u : ℤ) → walkOf kept cs more (end step) (suc already) u ≡ Refused r → Ended kept cs more (end step) (suc already) u r) → (stepped : Stepped)
+          → stepOf kept cs step t ≡ stepped
           → onward (walkOf kept cs more (end step) (suc already)) already stepped ≡ Refused r → Ended kept cs (step ∷ more) scale already t r
       by rest (Reached u) s e = further-ended step more scale already t u r s (rest u e)
       by rest OutsideTable s e =
@@ -67,7 +70,9 @@ pub because : (from to : ℕ) (reading : Reading) (bytes : List ℕ) (r : Refusa
 unfolding betweenOf numberOf placeOf
 because from to reading bytes r e = by (course from to bytes)
   where
-    walked : (read : Read) → readOf reading ≡ read → started (walkOf (tableIn bytes) (coefficientsIn bytes) (path (named from) (named to)) (named from) 0) read ≡ Refused r → Because from to reading bytes r
+    walked : (read : Read) → readOf reading ≡ read
+        → started (walkOf (tableIn bytes) (coefficientsIn bytes) (path (named from) (named to)) (named from) 0) read ≡ Refused r
+        → Because from to reading bytes r
     walked (R.Tick tick) q w = by-walk tick q (walk-ended (tableIn bytes) (coefficientsIn bytes) (path (named from) (named to)) (named from) 0 tick r w)
     walked (R.Refused refusal) q w = let same : refusal ≡ r = cc in by-reading (q ∙ ap R.Refused same)
 

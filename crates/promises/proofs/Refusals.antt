@@ -50,7 +50,8 @@ module _ (P : ℕ → Type 0) where
   tests-number [] t r a e = let z : _≡_ {A = ℕ} 0 1 = cc in let no : ⊥ = omega arith in absurd no
   tests-number (x ∷ xs) t r a e = by (tests-number xs t r (a .1)) (ltb (failsAt x) (x .places)) e
     where
-      by : (judgedBy xs t ≡ J.Refused r → P (r .number)) → (fails : Bool) → cond fails (blocks.refusing (x .number) (failsAt x)) (judgedBy xs t) ≡ J.Refused r → P (r .number)
+      by : (judgedBy xs t ≡ J.Refused r → P (r .number)) → (fails : Bool) → cond fails (blocks.refusing (x .number) (failsAt x)) (judgedBy xs t) ≡ J.Refused r
+          → P (r .number)
       by rest true e = subst P (ap blocks.numberOf e) (a .0)
       by rest false e = rest e
 
@@ -77,16 +78,19 @@ any-over : (before : List Step) (last : Step) (after : List Step) → overTable 
 any-over [] last after e = rw e
 any-over (step ∷ before) last after e = or-right (overTable step) (any-over before last after e)
 
-so-many-before : (before : List Step) (last : Step) (after : List Step) → overTable last ≡ true → overOnce (before ++ last ∷ after) ≡ true → stepsToTable (before ++ last ∷ after) ≡ length before
+so-many-before : (before : List Step) (last : Step) (after : List Step) → overTable last ≡ true → overOnce (before ++ last ∷ after) ≡ true
+    → stepsToTable (before ++ last ∷ after) ≡ length before
 so-many-before [] last after e o = rw e
 so-many-before (step ∷ before) last after e o = by (so-many-before before last after e) (overTable step) o
   where
     by : (overOnce (before ++ last ∷ after) ≡ true → stepsToTable (before ++ last ∷ after) ≡ length before) → (over : Bool)
-        → cond over (not (anyOverTable (before ++ last ∷ after))) (overOnce (before ++ last ∷ after)) ≡ true → cond over 0 (suc (stepsToTable (before ++ last ∷ after))) ≡ suc (length before)
+        → cond over (not (anyOverTable (before ++ last ∷ after))) (overOnce (before ++ last ∷ after)) ≡ true
+        → cond over 0 (suc (stepsToTable (before ++ last ∷ after))) ≡ suc (length before)
     by rest true o = never (rw (any-over before last after e) at o)
     by rest false o = ap suc (rest o)
 
-stopped-over : (kept : Kept) (cs : List ℤ) (p : List Step) (scale : Scale) (tick : ℤ) (done : ℕ) → overOnce p ≡ true → Stopped kept cs p scale 0 tick done OutsideTable → done ≡ stepsToTable p
+stopped-over : (kept : Kept) (cs : List ℤ) (p : List Step) (scale : Scale) (tick : ℤ) (done : ℕ) → overOnce p ≡ true
+    → Stopped kept cs p scale 0 tick done OutsideTable → done ≡ stepsToTable p
 stopped-over kept cs p scale tick done o s =
     let many = steps-are kept cs (s .before) scale 0 tick (s .walked) in
     let so = so-many-before (s .before) (s .last) (s .after) (step-outside kept cs (s .epoch .tick) (s .last) (s .stopped)) (rw (s .split) at o) in
@@ -133,7 +137,10 @@ module _ (from to : ℕ) (reading : Reading) (bytes : List ℕ) (r : Refusal) (r
       by (by-from h n p) = let no : ⊥ = omega arith in absurd no
       by (by-to h k n p) = let no : ⊥ = omega arith in absurd no
       by (by-table o j) = let no : ⊥ = omega (arith, table-above bytes r j) in absurd no
-      by (by-reading q) = let below = reading-told (λ of. of .number ≤ 4) reading (lit≤ tt) (lit≤ tt) (lit≤ tt) (lit≤ tt) (lit≤ tt) r q in let no : ⊥ = omega arith in absurd no
+      by (by-reading q) =
+          let below = reading-told (λ of. of .number ≤ 4) reading (lit≤ tt) (lit≤ tt) (lit≤ tt) (lit≤ tt) (lit≤ tt) r q in
+          let no : ⊥ = omega arith in
+          absurd no
       by (by-walk tick q w) = (tick, w)
 
   -- '6: outside the table', place 'steps done': the steps of the path before the one over the table
@@ -141,19 +148,23 @@ module _ (from to : ℕ) (reading : Reading) (bytes : List ℕ) (r : Refusal) (r
   place-of-6 six = let w = walk-6 six in by (w .0) (w .1)
     where
       by : (tick : ℤ) → EndedBetween from to bytes tick r → r .place ≡ stepsToTable (path (named from) (named to))
-      by tick (outside-table n s) = stopped-over (tableIn bytes) (coefficientsIn bytes) (path (named from) (named to)) (named from) tick (r .place) (once (named from) (named to)) s
+      by tick (outside-table n s) =
+          stopped-over (tableIn bytes) (coefficientsIn bytes) (path (named from) (named to)) (named from) tick (r .place) (once (named from) (named to)) s
       by tick (outside-range done n p s) = let no : ⊥ = omega arith in absurd no
 
-  -- '4: epoch outside the range at start, between steps or at the end', place 'steps done, the one that led outside counted': the start is refused with place 0,
-  -- or so many steps are walked and the next one leads outside
-  pub place-of-4 : r .number ≡ 4 → ((r .place ≡ 0) × (readOf reading ≡ R.Refused r)) ⊎ ((tick : ℤ) × (done : ℕ) × (r .place ≡ suc done) × StoppedBetween from to bytes tick done OutsideRange)
+  -- '4: epoch outside the range at start, between steps or at the end', place 'steps done, the one that led outside counted': the start is refused with place
+  -- 0, or so many steps are walked and the next one leads outside
+  pub place-of-4 : r .number ≡ 4 → ((r .place ≡ 0) × (readOf reading ≡ R.Refused r))
+      ⊎ ((tick : ℤ) × (done : ℕ) × (r .place ≡ suc done) × StoppedBetween from to bytes tick done OutsideRange)
   place-of-4 four = by (because from to reading bytes r refused)
     where
-      ended : (tick : ℤ) → EndedBetween from to bytes tick r → (tick : ℤ) × (done : ℕ) × (r .place ≡ suc done) × StoppedBetween from to bytes tick done OutsideRange
+      ended : (tick : ℤ) → EndedBetween from to bytes tick r
+          → (tick : ℤ) × (done : ℕ) × (r .place ≡ suc done) × StoppedBetween from to bytes tick done OutsideRange
       ended tick (outside-table n s) = let no : ⊥ = omega arith in absurd no
       ended tick (outside-range done n p s) = (tick, done, p, s)
 
-      by : Because from to reading bytes r → ((r .place ≡ 0) × (readOf reading ≡ R.Refused r)) ⊎ ((tick : ℤ) × (done : ℕ) × (r .place ≡ suc done) × StoppedBetween from to bytes tick done OutsideRange)
+      by : Because from to reading bytes r → ((r .place ≡ 0) × (readOf reading ≡ R.Refused r))
+          ⊎ ((tick : ℤ) × (done : ℕ) × (r .place ≡ suc done) × StoppedBetween from to bytes tick done OutsideRange)
       by (by-from h n p) = let no : ⊥ = omega arith in absurd no
       by (by-to h k n p) = let no : ⊥ = omega arith in absurd no
       by (by-table o j) = let no : ⊥ = omega (arith, table-above bytes r j) in absurd no
@@ -163,11 +174,13 @@ module _ (from to : ℕ) (reading : Reading) (bytes : List ℕ) (r : Refusal) (r
       by (by-walk tick q w) = inr (ended tick w)
 
 -- ---- 'A path that doesn't cross never looks at the table': it answers the same over any two table bytes
-pub table-unseen : (from to : ℕ) (reading : Reading) (bytes bytes' : List ℕ) → crosses (named from) (named to) ≡ false → convertOf from to reading bytes ≡ convertOf from to reading bytes'
+pub table-unseen : (from to : ℕ) (reading : Reading) (bytes bytes' : List ℕ) → crosses (named from) (named to) ≡ false
+    → convertOf from to reading bytes ≡ convertOf from to reading bytes'
 unfolding convertOf convertJudged askedOf
 table-unseen from to reading bytes bytes' c = by (leb from 6) (leb to 6)
   where
-    by : (p q : Bool) → convertAsked (coded from to p q true) (readOf reading) (judged bytes) (coefficientsIn bytes) ≡ convertAsked (coded from to p q true) (readOf reading) (judged bytes') (coefficientsIn bytes')
+    by : (p q : Bool) → convertAsked (coded from to p q true) (readOf reading) (judged bytes) (coefficientsIn bytes)
+        ≡ convertAsked (coded from to p q true) (readOf reading) (judged bytes') (coefficientsIn bytes')
     by true true = rw c
     by true false = refl
     by false q = refl

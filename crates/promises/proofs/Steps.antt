@@ -1,5 +1,5 @@
--- What holds of each of the ten steps of a walk, over whatever table has been accepted, beside the laws of `desk`: there and back lands within one tick, it comes to a
--- valid epoch, and only a step over the table looks at it. Assumes nothing.
+-- What holds of each of the ten steps of a walk, over whatever table has been accepted, beside the laws of `desk`: there and back lands within one tick, it
+-- comes to a valid epoch, and only a step over the table looks at it. Assumes nothing.
 use mathlib.Core.Path.{_≡_, refl, sym, _∙_}
 use mathlib.Core.Bool.{true, false}
 use mathlib.Core.List.{List}
@@ -39,7 +39,8 @@ line-valid : (line : Linear) (t u : ℤ) → linearly line t ≡ Reached u → i
 line-valid line t u e = let a = line-reached line t u e in rw (← a .2) (a .1)
 
 line-back : (line : Line) (t u v : ℤ) → linearly (lineOf line) t ≡ Reached u → linearly (inverse (lineOf line)) u ≡ Reached v → natAbs (v -ℤ t) ≤ 1
-line-back line t u v there e = back (lineOf line) (proper line) t u (was-at (linear.step (lineOf line) t) u there) v (was-at (linear.step (inverse (lineOf line)) u) v e)
+line-back line t u v there e =
+    back (lineOf line) (proper line) t u (was-at (linear.step (lineOf line) t) u there) v (was-at (linear.step (inverse (lineOf line)) u) v e)
 
 -- ---- and over whatever is kept
 near-before : (v t : ℤ) → v ≤ℤ t → t ≤ℤ (v +ℤ pos 1) → natAbs (v -ℤ t) ≤ 1
@@ -107,5 +108,7 @@ step-outside kept cs tick = each-step _ (λ line e. inside (linear.step (lineOf 
     inside Outside e = let z : _≡_ {A = ℕ} 0 1 = cc in let no : ⊥ = omega arith in absurd no
 
 -- and one that is not over it does not look at it
-pub step-unseen : (kept kept' : Kept) (cs cs' : List ℤ) (tick : ℤ) (step : Step) → overTable step ≡ false → stepOf kept cs step tick ≡ stepOf kept' cs' step tick
-step-unseen kept kept' cs cs' tick = each-step _ (λ line e. by-line kept cs line tick ∙ sym (by-line kept' cs' line tick)) (λ e. never (sym e)) (λ e. never (sym e))
+pub step-unseen : (kept kept' : Kept) (cs cs' : List ℤ) (tick : ℤ) (step : Step) → overTable step ≡ false
+    → stepOf kept cs step tick ≡ stepOf kept' cs' step tick
+step-unseen kept kept' cs cs' tick =
+    each-step _ (λ line e. by-line kept cs line tick ∙ sym (by-line kept' cs' line tick)) (λ e. never (sym e)) (λ e. never (sym e))

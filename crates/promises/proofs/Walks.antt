@@ -64,7 +64,8 @@ module _ (kept kept' : Kept) (cs cs' : List ℤ) where
   onward-same f g same done OutsideTable = refl
   onward-same f g same done OutsideRange = refl
 
-  walk-unseen : (p : List Step) → anyOverTable p ≡ false → (scale : Scale) (done : ℕ) (tick : ℤ) → walkOf kept cs p scale done tick ≡ walkOf kept' cs' p scale done tick
+  walk-unseen : (p : List Step) → anyOverTable p ≡ false → (scale : Scale) (done : ℕ) (tick : ℤ)
+      → walkOf kept cs p scale done tick ≡ walkOf kept' cs' p scale done tick
   unfolding walkOf
   walk-unseen [] e scale done tick = refl
   walk-unseen (step ∷ more) e scale done tick =
@@ -80,7 +81,8 @@ module _ (epoch : Epoch) (steps : ℕ) where
   came-to kept cs scale done t e = ap tickOf e
 
   -- and the scale is where the path led
-  pub scale-walked : (kept : Kept) (cs : List ℤ) (p : List Step) (from to : Scale) (done : ℕ) (t : ℤ) → Leads from to p → walkOf kept cs p from done t ≡ Converted epoch steps → epoch .scale ≡ to
+  pub scale-walked : (kept : Kept) (cs : List ℤ) (p : List Step) (from to : Scale) (done : ℕ) (t : ℤ) → Leads from to p
+      → walkOf kept cs p from done t ≡ Converted epoch steps → epoch .scale ≡ to
   unfolding walkOf
   scale-walked kept cs [] from to done t l e = let s : from ≡ epoch .scale = ap scaleIn e in sym s ∙ l
     where
@@ -92,7 +94,8 @@ module _ (epoch : Epoch) (steps : ℕ) where
       scale-walked kept cs more (end step) to (suc done) (x .tick) (l .1) (x .onwards)
 
 -- over a path of one step, an answer is where the step came to
-pub one-step : (kept : Kept) (cs : List ℤ) (step : Step) (p : List Step) → p ≡ step ∷ [] → (scale : Scale) (t : ℤ) (e : Epoch) (m : ℕ) → walkOf kept cs p scale 0 t ≡ Converted e m
+pub one-step : (kept : Kept) (cs : List ℤ) (step : Step) (p : List Step) → p ≡ step ∷ [] → (scale : Scale) (t : ℤ) (e : Epoch) (m : ℕ)
+    → walkOf kept cs p scale 0 t ≡ Converted e m
     → stepOf kept cs step t ≡ Reached (e .tick)
 unfolding walkOf
 one-step kept cs step p single scale t e m w =
@@ -105,7 +108,8 @@ module _ (start end : Scale) (read : Read) where
   started-same walk walk' same (R.Tick tick) = same tick
   started-same walk walk' same (R.Refused refusal) = refl
 
-  plainly : (judgement : Judged) (cs : List ℤ) → crosses start end ≡ false → betweenOf start end read (heldBy judgement) cs ≡ betweenOf start end read K.Nothing []
+  plainly : (judgement : Judged) (cs : List ℤ) → crosses start end ≡ false
+      → betweenOf start end read (heldBy judgement) cs ≡ betweenOf start end read K.Nothing []
   unfolding betweenOf
   plainly judgement cs e = started-same _ _ (walk-unseen (heldBy judgement) K.Nothing cs [] (path start end) e start 0) read
 
@@ -113,8 +117,10 @@ module _ (start end : Scale) (read : Read) where
 pub data Course (from to : ℕ) (bytes : List ℕ) (answer : Reading → Answer) : Type 0 where
   from-refused : 6 < from → ((reading : Reading) → answer reading ≡ refusing 1 0) → Course from to bytes answer
   to-refused : from ≤ 6 → 6 < to → ((reading : Reading) → answer reading ≡ refusing 1 1) → Course from to bytes answer
-  table-refused : crosses (named from) (named to) ≡ true → (r : Refusal) → judged bytes ≡ J.Refused r → ((reading : Reading) → answer reading ≡ Refused r) → Course from to bytes answer
-  walking : ((reading : Reading) → answer reading ≡ betweenOf (named from) (named to) (readOf reading) (tableIn bytes) (coefficientsIn bytes)) → Course from to bytes answer
+  table-refused : crosses (named from) (named to) ≡ true → (r : Refusal) → judged bytes ≡ J.Refused r → ((reading : Reading) → answer reading ≡ Refused r)
+      → Course from to bytes answer
+  walking : ((reading : Reading) → answer reading ≡ betweenOf (named from) (named to) (readOf reading) (tableIn bytes) (coefficientsIn bytes))
+      → Course from to bytes answer
 
 module _ (from to : ℕ) where
   -- what is asked, by whether each code is one of 0 to 6, and by whether the path crosses
@@ -130,11 +136,13 @@ module _ (from to : ℕ) where
     by-table o (J.Accepted table) j = walking (λ reading. rw j)
     by-table o (J.Refused r) j = table-refused o r j (λ reading. refl)
 
-    by-path : (over : Bool) → crosses (named from) (named to) ≡ over → Course from to bytes (λ reading. convertAsked (crossing over) (readOf reading) (judged bytes) (coefficientsIn bytes))
+    by-path : (over : Bool) → crosses (named from) (named to) ≡ over
+        → Course from to bytes (λ reading. convertAsked (crossing over) (readOf reading) (judged bytes) (coefficientsIn bytes))
     by-path true o = by-table o (judged bytes) refl
     by-path false o = walking (λ reading. sym (plainly (named from) (named to) (readOf reading) (judged bytes) (coefficientsIn bytes) o))
 
-    by-codes : (p q : Bool) → leb from 6 ≡ p → leb to 6 ≡ q → Course from to bytes (λ reading. convertAsked (coded p q true) (readOf reading) (judged bytes) (coefficientsIn bytes))
+    by-codes : (p q : Bool) → leb from 6 ≡ p → leb to 6 ≡ q
+        → Course from to bytes (λ reading. convertAsked (coded p q true) (readOf reading) (judged bytes) (coefficientsIn bytes))
     by-codes true true f t = by-path (crosses (named from) (named to)) refl
     by-codes true false f t = to-refused (leb-true from 6 f) (leb-false to 6 t) (λ reading. refl)
     by-codes false q f t = from-refused (leb-false from 6 f) (λ reading. refl)
@@ -149,11 +157,14 @@ pub record Walk (from to : ℕ) (reading : Reading) (bytes : List ℕ) (epoch : 
   pub read : readOf reading ≡ R.Tick tick
   pub walk : walkOf (tableIn bytes) (coefficientsIn bytes) (path (named from) (named to)) (named from) 0 tick ≡ Converted epoch steps
 
-pub walked : (from to : ℕ) (reading : Reading) (bytes : List ℕ) (epoch : Epoch) (steps : ℕ) → convertOf from to reading bytes ≡ Converted epoch steps → Walk from to reading bytes epoch steps
+pub walked : (from to : ℕ) (reading : Reading) (bytes : List ℕ) (epoch : Epoch) (steps : ℕ) → convertOf from to reading bytes ≡ Converted epoch steps
+    → Walk from to reading bytes epoch steps
 unfolding betweenOf
 walked from to reading bytes epoch steps e = by (course from to bytes)
   where
-    was-read : (read : Read) → readOf reading ≡ read → started (walkOf (tableIn bytes) (coefficientsIn bytes) (path (named from) (named to)) (named from) 0) read ≡ Converted epoch steps → Walk from to reading bytes epoch steps
+    was-read : (read : Read) → readOf reading ≡ read
+        → started (walkOf (tableIn bytes) (coefficientsIn bytes) (path (named from) (named to)) (named from) 0) read ≡ Converted epoch steps
+        → Walk from to reading bytes epoch steps
     was-read (R.Tick tick) r w = record { tick = tick; read = r; walk = w }
     was-read (R.Refused refusal) r w = apart w
 
@@ -191,7 +202,8 @@ pub between : (from to : ℕ) (reading : Reading) (bytes : List ℕ) (table : Ta
     → convertOf from to reading bytes ≡ betweenOf (named from) (named to) (readOf reading) (K.Table table) (coefficientsIn bytes)
 between from to reading bytes table f t j = by (course from to bytes)
   where
-    by : Course from to bytes (λ reading. convertOf from to reading bytes) → convertOf from to reading bytes ≡ betweenOf (named from) (named to) (readOf reading) (K.Table table) (coefficientsIn bytes)
+    by : Course from to bytes (λ reading. convertOf from to reading bytes)
+        → convertOf from to reading bytes ≡ betweenOf (named from) (named to) (readOf reading) (K.Table table) (coefficientsIn bytes)
     by (from-refused g is) = let no : ⊥ = omega arith in absurd no
     by (to-refused g h is) = let no : ⊥ = omega arith in absurd no
     by (table-refused o r k is) = let z : _≡_ {A = ℕ} 0 1 = cc in let no : ⊥ = omega arith in absurd no

@@ -38,7 +38,8 @@ pub data Ended (kept : Kept) (cs : List ℤ) (p : List Step) (scale : Scale) (al
   -- '6: outside the table', place 'steps done'
   outside-table : r .number ≡ 6 → Stopped kept cs p scale already tick (r .place) OutsideTable → Ended kept cs p scale already tick r
   -- '4: epoch outside the range .. between steps or at the end', place 'steps done, the one that led outside counted'
-  outside-range : (done : ℕ) → r .number ≡ 4 → r .place ≡ suc done → Stopped kept cs p scale already tick done OutsideRange → Ended kept cs p scale already tick r
+  outside-range : (done : ℕ) → r .number ≡ 4 → r .place ≡ suc done → Stopped kept cs p scale already tick done OutsideRange
+      → Ended kept cs p scale already tick r
 
 -- in a conversion
 abbrev pub StoppedBetween : ℕ → ℕ → List ℕ → ℤ → ℕ → Stepped → Type 0

@@ -100,7 +100,8 @@ module _ (t : ℤ) (b q bias known : ℕ) (count : pos b ≡ t +ℤ pos bias) wh
   further : (x : ℤ) → bias ≡ 65500 + 481 * baryE → x +ℤ pos bias ≡ x +ℤ pos 65500 +ℤ pos (481 * baryE)
   further = rep _ (λ a b. simp lin (omega arith))
 
-  pub tcb-is : bias ≡ 65500 + 481 * baryE → known ≡ 481 * baryL - 65500 → q ≡ (b * baryL + 6249999903092514) / baryE → t +ℤ pos q -ℤ pos known ≡ nearestTick tdbToTcb t
+  pub tcb-is : bias ≡ 65500 + 481 * baryE → known ≡ 481 * baryL - 65500 → q ≡ (b * baryL + 6249999903092514) / baryE
+      → t +ℤ pos q -ℤ pos known ≡ nearestTick tdbToTcb t
   unfolding nearestTick exact
   tcb-is eb ek f =
       early t ek

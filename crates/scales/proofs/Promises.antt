@@ -108,7 +108,8 @@ module _ (s : Linear) (p : Proper s) (t u : ℤ) (there : step s t ≡ At u) whe
   back v e = rw (accepted (inverse s) u v e .is, accepted s t u there .is) (nearest-back s p t)
 
 -- GPS–TAI and TAI–TT come back exactly
-pub shift-back : (by t u v : ℤ) → step (record { times = 1; over = 1; plus = by }) t ≡ At u → step (inverse (record { times = 1; over = 1; plus = by })) u ≡ At v → v ≡ t
+pub shift-back : (by t u v : ℤ) → step (record { times = 1; over = 1; plus = by }) t ≡ At u
+    → step (inverse (record { times = 1; over = 1; plus = by })) u ≡ At v → v ≡ t
 shift-back by t u v there e =
     accepted (inverse (record { times = 1; over = 1; plus = by })) u v e .is
     ∙ sym (shifted u (negℤ by))

@@ -24,7 +24,8 @@ both : (x y : ℤ) → (leZ (y -ℤ x) (pos widest) && leZ (x -ℤ y) (pos wides
 unfolding isJoined
 both x y = rw (turned x y) (size-test widest (x -ℤ y))
 
-first : (c : tie.After-at-most) → c .at-most .result ≡ leZ (c .before .before .before .args .alternating .0 -ℤ c .before .before .before .args .plain .0) (pos widest)
+first : (c : tie.After-at-most)
+    → c .at-most .result ≡ leZ (c .before .before .before .args .alternating .0 -ℤ c .before .before .before .args .plain .0) (pos widest)
 first c =
     let a = c .before .before .before .args in
     let y = read-is (a .alternating .0) (record { sfits = c .before .before .struct-told .given .0 .1 }) in

@@ -38,7 +38,8 @@ bad cs k h e t = sym (step cs k h ∙ ap (λ (b : Bool). b && isSmall (drop (suc
 good : (cs : List ℤ) (k : ℕ) → k < length cs → isSmall (drop k cs) ≡ isSmall cs → isWithin (getD cs k (pos 0)) ≡ true → isSmall (drop (k + 1) cs) ≡ isSmall cs
 good cs k h e t = rw (add-one k) (sym (step cs k h ∙ ap (λ (b : Bool). b && isSmall (drop (suc k) cs)) t) ∙ e)
 
-tested : (c : tie.After-within Inv-loop μ-loop) → c .within .result ≡ isWithin (getD (c .before .before .before .before .args .coefficients .now) (c .before .before .before .loop .k) (pos 0))
+tested : (c : tie.After-within Inv-loop μ-loop)
+    → c .within .result ≡ isWithin (getD (c .before .before .before .before .args .coefficients .now) (c .before .before .before .loop .k) (pos 0))
 tested c = rw (read-is _ (record { sfits = c .before .c .given })) at (c .within .ensures)
 
 loop-holds : tie.Need-loop-holds Inv-loop μ-loop

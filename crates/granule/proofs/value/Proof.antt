@@ -26,10 +26,12 @@ abbrev μ-loop : tie.MeasureT-loop
 μ-loop cs place H u b1₀ b2₀ k₀ b1 b2 k = k
 
 -- before the first turn, over a turn, and after the last
-begin : (u : ℤ) (cs : List ℤ) → 1 ≤ length cs → (length cs - 1 < length cs) × (pos 0 ≡ bAt u cs (suc (length cs - 1))) × (pos 0 ≡ bAt u cs (suc (suc (length cs - 1))))
+begin : (u : ℤ) (cs : List ℤ) → 1 ≤ length cs
+    → (length cs - 1 < length cs) × (pos 0 ≡ bAt u cs (suc (length cs - 1))) × (pos 0 ≡ bAt u cs (suc (suc (length cs - 1))))
 begin u cs h = (omega arith, sym (b-top u cs (suc (length cs - 1)) (omega arith)), sym (b-top u cs (suc (suc (length cs - 1))) (omega arith)))
 
-turn : (u : ℤ) (cs : List ℤ) (k : ℕ) (b : ℤ) → 0 < k → k < length cs → b ≡ getD cs k (pos 0) +ℤ nearest (u *ℤ bAt u cs (suc k)) (2 ^ 29) -ℤ bAt u cs (suc (suc k)) → b ≡ bAt u cs (suc (k - 1))
+turn : (u : ℤ) (cs : List ℤ) (k : ℕ) (b : ℤ) → 0 < k → k < length cs
+    → b ≡ getD cs k (pos 0) +ℤ nearest (u *ℤ bAt u cs (suc k)) (2 ^ 29) -ℤ bAt u cs (suc (suc k)) → b ≡ bAt u cs (suc (k - 1))
 turn u cs k b h l e = rw (earlier k h) (e ∙ sym (b-turn u cs k l))
 
 end : (cs : List ℤ) (place H : ℕ) → valueAt cs place H
@@ -37,7 +39,8 @@ end : (cs : List ℤ) (place H : ℕ) → valueAt cs place H
 unfolding valueAt vOf
 end cs place H = refl
 
-made : (c : tie.After-argument Inv-loop μ-loop) → read (c .argument .result) ≡ uOf (pOf (c .before .args .place) (c .before .args .length)) (c .before .args .length)
+made : (c : tie.After-argument Inv-loop μ-loop)
+    → read (c .argument .result) ≡ uOf (pOf (c .before .args .place) (c .before .args .length)) (c .before .args .length)
 made c = read-is _ (record { sfits = c .argument .ok }) ∙ c .argument .ensures
 
 argument-requires : tie.Need-argument-requires Inv-loop μ-loop

@@ -28,7 +28,8 @@ begin cs = sym (weight-nil (length cs)) ∙ ap (weightFrom (length cs)) (sym (dr
 
 turn : (cs : List ℤ) (k x sum : ℕ) → 0 < k → k ≤ length cs → x ≡ natAbs (getD cs (k - 1) (pos 0)) → sum ≡ weightFrom k (drop k cs)
     → (k - 1) * (k - 1) * x + sum ≡ weightFrom (k - 1) (drop (k - 1) cs)
-turn cs k x sum h l e f = rw (e, f) (sym (ap (weightFrom (k - 1)) (drop-back cs k h l) ∙ (rw (earlier k h) at (weight-cons (k - 1) (getD cs (k - 1) (pos 0)) (drop k cs)))))
+turn cs k x sum h l e f =
+    rw (e, f) (sym (ap (weightFrom (k - 1)) (drop-back cs k h l) ∙ (rw (earlier k h) at (weight-cons (k - 1) (getD cs (k - 1) (pos 0)) (drop k cs)))))
 
 end : (cs : List ℤ) → weightFrom 0 (drop 0 cs) ≡ weightOf cs
 unfolding weightOf

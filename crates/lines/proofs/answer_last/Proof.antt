@@ -9,7 +9,9 @@ use Rattle.lines.proofs.answer_last.Statement.{statement}
 use Rattle.lines.proofs.answer_last.Tie as tie
 
 returns : tie.Need-returns
-returns c = let a = c .before .before .before .args in rw (output-none (a .judged) (a .coefficients .now) (a .text .now) (c .if1 .taken)) (put-nothing (a .out .now))
+returns c =
+    let a = c .before .before .before .args in
+    rw (output-none (a .judged) (a .coefficients .now) (a .text .now) (c .if1 .taken)) (put-nothing (a .out .now))
 
 answer-line-requires : tie.Need-answer-line-requires
 answer-line-requires c κs = search needs

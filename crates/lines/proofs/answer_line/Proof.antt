@@ -25,7 +25,8 @@ use Rattle.lines.proofs.answer_line.Statement.{statement}
 use Rattle.lines.proofs.answer_line.Tie as tie
 
 module _ {line : List ℕ} {table : Judged} {coefficients : List ℤ} {out : List ℕ} {at : ℕ} {out' : List ℕ} {next : ℕ} where
-  printed : {text : List ℕ} → printedFor table coefficients line ≡ text → Put out at text out' next → length text ≤ longest → Printed line table coefficients out at out' next
+  printed : {text : List ℕ} → printedFor table coefficients line ≡ text → Put out at text out' next → length text ≤ longest
+      → Printed line table coefficients out at out' next
   printed is put few = record { put = subst (λ (t : List ℕ). Put out at t out' next) (sym is) put; short = omega (arith, put .after) }
 
   -- a line that is understood
@@ -36,7 +37,8 @@ module _ {line : List ℕ} {table : Judged} {coefficients : List ℤ} {out : Lis
   understood read one two converted put few = printed (rw (read, ← one, ← two, ← converted)) put few
 
   -- one that is not
-  refused : {refusal : Refusal} → lineOf line 1 ≡ Refused refusal → Put out at (refusedLine (refusal .number)) out' next → length (refusedLine (refusal .number)) ≤ longest
+  refused : {refusal : Refusal} → lineOf line 1 ≡ Refused refusal → Put out at (refusedLine (refusal .number)) out' next
+      → length (refusedLine (refusal .number)) ≤ longest
       → Printed line table coefficients out at out' next
   unfolding printedFor
   refused read put few = printed (rw read) put few

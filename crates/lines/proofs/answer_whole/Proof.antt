@@ -29,7 +29,8 @@ record Passed (text : List ℕ) (table : Judged) (coefficients : List ℤ) (out�
 
 at-first : (text : List ℕ) (table : Judged) (coefficients : List ℤ) (out : List ℕ) → Passed text table coefficients out out 0 0 0
 unfolding wholeLines
-at-first text table coefficients out = record { inside = omega arith; begins = refl; put = rw (output-nothing table coefficients) (put-nothing out); few = omega arith }
+at-first text table coefficients out =
+    record { inside = omega arith; begins = refl; put = rw (output-nothing table coefficients) (put-nothing out); few = omega arith }
 
 -- the next byte
 module _ {text : List ℕ} {table : Judged} {coefficients : List ℤ} {out₀ out : List ℕ} {start end i : ℕ} (passed : Passed text table coefficients out₀ out start end i) where
@@ -71,7 +72,8 @@ module _ {text : List ℕ} {table : Judged} {coefficients : List ℤ} {out₀ ou
         whole : wholeLines (take (i + 1) text) ≡ wholeLines (take i text ++ (10 ∷ []))
         whole = ap wholeLines (grown ∙ ap (λ (byte : ℕ). take i text ++ (byte ∷ [])) newline)
 
-        text-is : outputOf table coefficients (wholeLines (take (i + 1) text)) ≡ outputOf table coefficients (wholeLines (take i text)) ++ printedFor table coefficients (take (i - start) (drop start text))
+        text-is : outputOf table coefficients (wholeLines (take (i + 1) text))
+            ≡ outputOf table coefficients (wholeLines (take i text)) ++ printedFor table coefficients (take (i - start) (drop start text))
         text-is = rw line-is (ap (outputOf table coefficients) whole ∙ output-newline table coefficients (take i text))
 
         ended : Passed text table coefficients out₀ out' (i + 1) next (i + 1)

@@ -29,7 +29,9 @@ abbrev μ-loop : tie.MeasureT-loop
 μ-loop text₀ judged coefficients out₀ kept₀ turns₀ text out kept turns = turns
 
 loop-holds : tie.Need-loop-holds Inv-loop μ-loop
-loop-holds c = let s = c .before .before in record { waiting = record { buffers = s .pre; front = front-nothing (s .args .text .now) }; textLong = refl; outLong = refl }
+loop-holds c =
+    let s = c .before .before in
+    record { waiting = record { buffers = s .pre; front = front-nothing (s .args .text .now) }; textLong = refl; outLong = refl }
 
 turn-requires : tie.Need-turn-requires Inv-loop μ-loop
 turn-requires c κs = search needs

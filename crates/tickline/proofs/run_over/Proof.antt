@@ -14,7 +14,8 @@ judge-requires c κs = search needs
 enum-known-judged : tie.Need-enum-known-judged
 enum-known-judged c = search needs
 
-opened : (k : tie.After-known-told) → judged (k .before .before .before .before .before .before .before .args .bytes .now) ≡ Accepted (k .before .judged .given .0 .0)
+opened : (k : tie.After-known-told)
+    → judged (k .before .before .before .before .before .before .before .args .bytes .now) ≡ Accepted (k .before .judged .given .0 .0)
 opened k = sym (k .before .before .before .judge .ensures) ∙ k .before .judged .given .1
 
 taken-requires : tie.Need-taken-requires

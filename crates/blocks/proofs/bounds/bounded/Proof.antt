@@ -49,7 +49,8 @@ span-here c =
     let t = table5 e in
     span-fits (t .count) (t .length) (t .start .0) (e .if5 .left) (lt-no _ _ (not-short (third e .before))) (lt-no _ _ (not-long (third e)))
 
-end-here : (c : tie.Else6) → SFits w64 (table5 (c .before .before .before) .start .0 +ℤ pos (table5 (c .before .before .before) .count) *ℤ table5 (c .before .before .before) .length)
+end-here : (c : tie.Else6)
+    → SFits w64 (table5 (c .before .before .before) .start .0 +ℤ pos (table5 (c .before .before .before) .count) *ℤ table5 (c .before .before .before) .length)
 end-here c =
     let e = c .before .before .before in
     let t = table5 e in
@@ -68,7 +69,10 @@ returns-4 : tie.Need-returns-4
 returns-4 c = let e = c .before .before in none (table1 (e .before .before)) (e .before .before .if1 .left) (not-short (e .before)) (not-long e) (c .if4 .taken)
 
 returns-5 : tie.Need-returns-5
-returns-5 c = let f = c .before .before in let e = f .before .before in too-many (table1 (e .before .before)) (e .before .before .if1 .left) (not-short (e .before)) (not-long e) (f .if4 .left) (c .if5 .taken)
+returns-5 c =
+    let f = c .before .before in
+    let e = f .before .before in
+    too-many (table1 (e .before .before)) (e .before .before .if1 .left) (not-short (e .before)) (not-long e) (f .if4 .left) (c .if5 .taken)
 
 valid-requires : tie.Need-valid-requires
 valid-requires c κs = search needs

@@ -7,7 +7,8 @@ use mathlib.Core.Path.{_≡_, sym, _∙_, ap}
 use Rattle.blocks.proofs.granules.joined_run.Statement.{statement}
 use Rattle.blocks.proofs.granules.joined_run.Tie as tie
 
-test-is : (c : tie.After-joined) → c .joined .result ≡ isJoined (c .before .before .before .before .args .before .0) (alternatingSum (c .before .before .before .before .args .coefficients .now))
+test-is : (c : tie.After-joined) → c .joined .result
+    ≡ isJoined (c .before .before .before .before .args .before .0) (alternatingSum (c .before .before .before .before .args .coefficients .now))
 test-is c = c .joined .ensures ∙ ap (isJoined (c .before .before .before .before .args .before .0)) (c .before .alternating .ensures)
 
 returns : tie.Need-returns

@@ -8,7 +8,8 @@ use mathlib.Core.Path.{_≡_, sym, _∙_, ap}
 use Rattle.blocks.proofs.granules.light_run.Statement.{statement}
 use Rattle.blocks.proofs.granules.light_run.Tie as tie
 
-test-is : (c : tie.After-light) → c .light .result ≡ isLight (weightOf (c .before .before .before .args .coefficients .now)) (c .before .before .before .args .length)
+test-is : (c : tie.After-light)
+    → c .light .result ≡ isLight (weightOf (c .before .before .before .args .coefficients .now)) (c .before .before .before .args .length)
 test-is c = c .light .ensures ∙ ap (λ (w : ℕ). isLight w (c .before .before .before .args .length)) (c .before .weight .ensures)
 
 returns : tie.Need-returns

@@ -11,7 +11,8 @@ use mathlib.Core.Path.{_≡_, sym, _∙_}
 use Rattle.blocks.proofs.granules.look_at.Statement.{statement}
 use Rattle.blocks.proofs.granules.look_at.Tie as tie
 
-same-scan : {l l' j j' : ℕ} {x : Units} {z : ℤ} → l ≡ l' → j ≡ j' → x .0 ≡ z → Onward (record { light = l; joined = j; plain = x }) ≡ Onward (record { light = l'; joined = j'; plain = record { 0 = z } })
+same-scan : {l l' j j' : ℕ} {x : Units} {z : ℤ} → l ≡ l' → j ≡ j' → x .0 ≡ z
+    → Onward (record { light = l; joined = j; plain = x }) ≡ Onward (record { light = l'; joined = j'; plain = record { 0 = z } })
 same-scan p q r = rw (p, q, ← r)
 
 summable : (c : tie.Else1) → Summable (c .before .before .args .coefficients .now)

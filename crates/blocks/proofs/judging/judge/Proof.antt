@@ -63,7 +63,8 @@ is-bounded c = sym (c .before .bounded .ensures) ∙ not-false _ (c .if4 .left)
 abbrev fourth : tie.Else5 → tie.Else4
 fourth c = c .before .before
 
-by12 : (c : tie.Else5) → judgedBy (tableTests (bytes4 (fourth c .before)) (table4 (fourth c .before))) (table4 (fourth c .before)) ≡ judgedBy (from12 (bytes4 (fourth c .before)) (table4 (fourth c .before))) (table4 (fourth c .before))
+by12 : (c : tie.Else5) → judgedBy (tableTests (bytes4 (fourth c .before)) (table4 (fourth c .before))) (table4 (fourth c .before))
+    ≡ judgedBy (from12 (bytes4 (fourth c .before)) (table4 (fourth c .before))) (table4 (fourth c .before))
 by12 c = let a = fourth c .before in past13 (bytes4 a) (table4 a) (by13 (a .before .before) (table4 a)) (is-bounded (fourth c)) (c .if5 .left)
 
 whole-requires : tie.Need-whole-requires
@@ -87,7 +88,9 @@ returns-2 : tie.Need-returns-2
 returns-2 c =
     let l = c .before .before in
     let b = bytes1 (l .before) in
-    c .refused2 .ensures ∙ refused11 b (tableOf b) (past10 b (tableOf b) (is-whole (l .before))) _ (l .lowest-unchecked .ensures) (c .before .if2 .taken) ∙ judged-is b
+    c .refused2 .ensures
+    ∙ refused11 b (tableOf b) (past10 b (tableOf b) (is-whole (l .before))) _ (l .lowest-unchecked .ensures) (c .before .if2 .taken)
+    ∙ judged-is b
 
 lowest-unformed-requires : tie.Need-lowest-unformed-requires
 lowest-unformed-requires c κs =
@@ -101,7 +104,9 @@ returns-3 : tie.Need-returns-3
 returns-3 c =
     let l = c .before .before in
     let b = bytes2 (l .before) in
-    c .refused3 .ensures ∙ refused-first b (tableOf b) (by-first (l .before) (tableOf b)) (one-stop (λ k. isFormed 0 0 k (block b k)) _ (l .lowest-unformed .ensures) (c .before .if3 .taken)) ∙ judged-is b
+    c .refused3 .ensures
+    ∙ refused-first b (tableOf b) (by-first (l .before) (tableOf b)) (one-stop (λ k. isFormed 0 0 k (block b k)) _ (l .lowest-unformed .ensures) (c .before .if3 .taken))
+    ∙ judged-is b
 
 table-of-requires : tie.Need-table-of-requires
 table-of-requires c κs = let w = whole-told _ (is-whole (c .before .before .before .before)) in omega (arith, w .blocks, w .some)
@@ -115,7 +120,9 @@ refused-requires-4 c κs = search needs
 returns-4 : tie.Need-returns-4
 returns-4 c =
     let a = c .before .before in
-    c .refused4 .ensures ∙ refused13-bound (bytes4 a) (table4 a) (by13 (a .before .before) (table4 a)) (sym (a .bounded .ensures) ∙ not-true _ (c .before .if4 .taken)) ∙ same-judged a
+    c .refused4 .ensures
+    ∙ refused13-bound (bytes4 a) (table4 a) (by13 (a .before .before) (table4 a)) (sym (a .bounded .ensures) ∙ not-true _ (c .before .if4 .taken))
+    ∙ same-judged a
 
 cast-count : tie.Need-cast-count
 cast-count c = search needs

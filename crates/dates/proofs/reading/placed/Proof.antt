@@ -66,7 +66,8 @@ refused-requires c κs = search needs
 returns : tie.Need-returns
 returns c =
     let s = c .before .before .before in
-    c .refused .ensures ∙ sym (too-late (per s) (most s) (s .pre .1) (s .args .span) (s .pre .0) (lt-yes _ _ (rw (units-are s, most-is s) at (c .before .if1 .taken))))
+    c .refused .ensures
+    ∙ sym (too-late (per s) (most s) (s .pre .1) (s .args .span) (s .pre .0) (lt-yes _ _ (rw (units-are s, most-is s) at (c .before .if1 .taken))))
 
 sub-if2 : tie.Need-sub-if2
 sub-if2 c = minus-fits (c .before .before)
@@ -77,7 +78,8 @@ refused-requires-2 c κs = search needs
 returns-2 : tie.Need-returns-2
 returns-2 c =
     let s = c .before .before .before .before in
-    c .refused2 .ensures ∙ sym (too-early (per s) (most s) (s .pre .1) (s .args .span) (s .pre .0) (lt-yes _ _ (rw (units-are s, minus-is s) at (c .before .if2 .taken))))
+    c .refused2 .ensures
+    ∙ sym (too-early (per s) (most s) (s .pre .1) (s .args .span) (s .pre .0) (lt-yes _ _ (rw (units-are s, minus-is s) at (c .before .if2 .taken))))
 
 few : (c : tie.Else2) → natAbs (units (c .before .before .before) *ℤ per (c .before .before .before)) ≤ 8640000000000000000
 few c =

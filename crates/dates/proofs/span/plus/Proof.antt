@@ -25,7 +25,9 @@ add-t3 : tie.Need-add-t3
 add-t3 c = let s = c .before .before .before .before in added (s .args .a .units) (s .args .b .units) (s .pre .0 .units) (s .pre .1 .units)
 
 add-t4 : tie.Need-add-t4
-add-t4 c = let s = c .before .before .before .before .before .before .before .before in added (s .args .a .ticks) (s .args .b .ticks) (s .pre .0 .ticks) (s .pre .1 .ticks)
+add-t4 c =
+    let s = c .before .before .before .before .before .before .before .before in
+    added (s .args .a .ticks) (s .args .b .ticks) (s .pre .0 .ticks) (s .pre .1 .ticks)
 
 returns : tie.Need-returns
 returns c =

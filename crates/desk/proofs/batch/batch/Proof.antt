@@ -16,7 +16,8 @@ module _ (c : tie.After-start) where
   abbrev start : tie.Start
   start = c .before .before .before .before
 
-  plain : askedOf (start .args .from) (start .args .to) (eqb (length (start .args .ticks .now)) (length (start .args .answers .now))) ≡ A.Plain (c .start .given .0 .0) (c .start .given .0 .1 .0)
+  plain : askedOf (start .args .from) (start .args .to) (eqb (length (start .args .ticks .now)) (length (start .args .answers .now)))
+      ≡ A.Plain (c .start .given .0 .0) (c .start .given .0 .1 .0)
   plain = sym (c .before .before .asked-of .ensures) ∙ c .start .given .1
 
   long : length (start .args .answers .now) ≡ length (start .args .ticks .now)
@@ -27,7 +28,8 @@ module _ (c : tie.After-start2) where
   abbrev start2 : tie.Start
   start2 = c .before .before .before .before
 
-  crossing : askedOf (start2 .args .from) (start2 .args .to) (eqb (length (start2 .args .ticks .now)) (length (start2 .args .answers .now))) ≡ A.Crossing (c .start2 .given .0 .0) (c .start2 .given .0 .1 .0)
+  crossing : askedOf (start2 .args .from) (start2 .args .to) (eqb (length (start2 .args .ticks .now)) (length (start2 .args .answers .now)))
+      ≡ A.Crossing (c .start2 .given .0 .0) (c .start2 .given .0 .1 .0)
   crossing = sym (c .before .before .asked-of .ensures) ∙ c .start2 .given .1
 
   long2 : length (start2 .args .answers .now) ≡ length (start2 .args .ticks .now)

@@ -14,7 +14,8 @@ use Rattle.desk.proofs.batch.copy_all.Statement.{statement}
 use Rattle.desk.proofs.batch.copy_all.Tie as tie
 
 abbrev Inv-loop : tie.InvT-loop
-Inv-loop ticks answers₀ i₀ answers i = (i ≤ length ticks) × (length answers ≡ length answers₀) × ((j : ℕ) → j < i → getD answers j (pos 0) ≡ getD ticks j (pos 0))
+Inv-loop ticks answers₀ i₀ answers i =
+    (i ≤ length ticks) × (length answers ≡ length answers₀) × ((j : ℕ) → j < i → getD answers j (pos 0) ≡ getD ticks j (pos 0))
 
 abbrev μ-loop : tie.MeasureT-loop
 μ-loop ticks answers₀ i₀ answers i = length ticks - i

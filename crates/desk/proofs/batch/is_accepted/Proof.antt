@@ -9,7 +9,8 @@ use Rattle.desk.proofs.batch.is_accepted.Statement.{statement}
 use Rattle.desk.proofs.batch.is_accepted.Tie as tie
 
 -- the answer is that of the tick as it was given
-told : (c : tie.After-between) → let s = c .before .before in c .between .result ≡ entryOf (s .args .from) (s .args .to) (s .args .kept) (s .args .coefficients .now) (s .args .tick)
+told : (c : tie.After-between) → let s =
+    c .before .before in c .between .result ≡ entryOf (s .args .from) (s .args .to) (s .args .kept) (s .args .coefficients .now) (s .args .tick)
 told c =
     let t = c .before in
     rw (t .ranged .ensures, toZ-ofZ w64 _ (t .before .fits .tick)) at (c .between .ensures) ∙ entry-read _ _ _ _ _

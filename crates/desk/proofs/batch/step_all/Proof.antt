@@ -1,5 +1,5 @@
--- `desk::batch::step_all` meets its contract: each place written so far holds where the step came to, the others hold what they held. The measure is how many are
--- left. Assumes nothing.
+-- `desk::batch::step_all` meets its contract: each place written so far holds where the step came to, the others hold what they held. The measure is how many
+-- are left. Assumes nothing.
 use mathlib.Core.Path.{_≡_, refl, _∙_, ap}
 use Prim.Native.Nat.{ℕ, _-_, _≤_, _<_, zero-le}
 use native.Mathlib.Nat.{le-refl}

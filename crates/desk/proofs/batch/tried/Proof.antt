@@ -33,7 +33,8 @@ returns-2 : tie.Need-returns-2
 returns-2 c =
     let late = c .before .before .before in
     let early = late .before .before in
-    ap Converted (c .steps-between .ensures) ∙ sym (ends-accepted _ _ (early .before .before .before .before .before .pre) _ _ _ _ _ (early .before .before .ends-of .ensures)
+    ap Converted (c .steps-between .ensures)
+    ∙ sym (ends-accepted _ _ (early .before .before .before .before .before .pre) _ _ _ _ _ (early .before .before .ends-of .ensures)
     (sym (rw (toZ-ofZ w64 _ (record { sfits = early .before .struct-told .given .0 .1 })) at (early .is-accepted .ensures)) ∙ c .before .before .if2 .taken)
     (sym (rw (toZ-ofZ w64 _ (record { sfits = late .before .struct-told2 .given .1 .0 .1 })) at (late .is-accepted2 .ensures)) ∙ c .before .if3 .taken))
 

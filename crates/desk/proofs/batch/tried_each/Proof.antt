@@ -1,4 +1,5 @@
--- `desk::batch::tried_each` meets its contract: what trying all says is what trying those that are left says. The measure is how many are left. Assumes nothing.
+-- `desk::batch::tried_each` meets its contract: what trying all says is what trying those that are left says. The measure is how many are left. Assumes
+-- nothing.
 use mathlib.Core.Path.{_≡_, refl, sym, _∙_, ap}
 use Prim.Native.Nat.{_-_, _≤_, zero-le}
 use borrow.Author.Needs.{needs}

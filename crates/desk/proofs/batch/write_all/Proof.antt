@@ -1,5 +1,5 @@
--- `desk::batch::write_all` meets its contract: what is left of each entry's walk, from where the list stands, is that entry's conversion. The measure is what is
--- left of 4. Assumes nothing.
+-- `desk::batch::write_all` meets its contract: what is left of each entry's walk, from where the list stands, is that entry's conversion. The measure is what
+-- is left of 4. Assumes nothing.
 use mathlib.Core.Path.{sym, _∙_}
 use Prim.Native.Nat.{_-_, _≤_, zero-le}
 use borrow.Author.Needs.{needs}

@@ -9,7 +9,9 @@ use Rattle.desk.proofs.step.to_tt.Statement.{statement}
 use Rattle.desk.proofs.step.to_tt.Tie as tie
 
 -- the step itself, of the tick as it was given
-told : (c : tie.After-to-tt) {answer : TtByTable} → c .to-tt .result ≡ answer → ttStep (c .before .before .kept .given .0 .0) (c .before .before .before .before .args .coefficients .now) (c .before .before .before .before .args .tick) ≡ answer
+told : (c : tie.After-to-tt) {answer : TtByTable} → c .to-tt .result ≡ answer
+    → ttStep (c .before .before .kept .given .0 .0) (c .before .before .before .before .args .coefficients .now) (c .before .before .before .before .args .tick)
+    ≡ answer
 told c e = sym (rw (toZ-ofZ w64 _ (c .before .before .before .before .fits .tick)) at (c .to-tt .ensures)) ∙ e
 
 enum-told : tie.Need-enum-told

@@ -14,7 +14,8 @@ use Rattle.desk.proofs.walk.walk.Statement.{statement}
 use Rattle.desk.proofs.walk.walk.Tie as tie
 
 abbrev Inv-loop : tie.InvT-loop
-Inv-loop to start kept coefficients scale₀ tick₀ done₀ scale tick done = (done ≤ 4) × (left kept coefficients to done scale (toZ w64 tick) ≡ left kept coefficients to 0 scale₀ (toZ w64 tick₀))
+Inv-loop to start kept coefficients scale₀ tick₀ done₀ scale tick done =
+    (done ≤ 4) × (left kept coefficients to done scale (toZ w64 tick) ≡ left kept coefficients to 0 scale₀ (toZ w64 tick₀))
 
 abbrev μ-loop : tie.MeasureT-loop
 μ-loop to start kept coefficients scale₀ tick₀ done₀ scale tick done = 4 - done
@@ -28,7 +29,8 @@ whole c =
     ∙ whole-left (s .args .kept) (s .args .coefficients .now) (s .args .to) (s .args .from) (s .args .start)
 
 -- the step that is taken is the next one
-by : (c : tie.After-take-step Inv-loop μ-loop) → let n = c .before .before .before .before in next (n .before .before .loop .scale) (n .before .before .before .args .to) ≡ By (c .before .before .step .given .0 .0)
+by : (c : tie.After-take-step Inv-loop μ-loop) → let n =
+    c .before .before .before .before in next (n .before .before .loop .scale) (n .before .before .before .args .to) ≡ By (c .before .before .step .given .0 .0)
 by c = sym (c .before .before .before .before .next-step .ensures) ∙ c .before .before .step .given .1
 
 loop-holds : tie.Need-loop-holds Inv-loop μ-loop

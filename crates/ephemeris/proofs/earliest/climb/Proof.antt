@@ -23,7 +23,8 @@ asked-is s = read-is (s .args .asked) (s .fits .asked)
 
 -- the place in a turn, and the test there
 module _ (c : tie.In-loop Inv-loop μ-loop) where
-  not-after : c .before .loop .place ≤ earliestPlace (c .before .before .before .args .table) (c .before .before .before .args .coefficients .now) (c .before .before .before .args .asked)
+  not-after : c .before .loop .place
+      ≤ earliestPlace (c .before .before .before .args .table) (c .before .before .before .args .coefficients .now) (c .before .before .before .args .asked)
   not-after = rw (asked-is (c .before .before .before)) at (c .before .loop .inv)
 
   inside : c .before .loop .place < lastPlace (c .before .before .before .args .table)
@@ -53,7 +54,10 @@ returns c =
     omega (arith, not-after (t .before), earliest-least (s .args .table) (s .args .coefficients .now) (s .args .asked) (t .before .before .loop .place) (le-yes _ _ h))
 
 add-place : tie.Need-add-place Inv-loop μ-loop
-add-place c = let t = c .before .before in let s = t .before .before .before in record { fits = omega (arith, inside t, last-small (s .args .table) (s .pre .accepted .bounds)) }
+add-place c =
+    let t = c .before .before in
+    let s = t .before .before .before in
+    record { fits = omega (arith, inside t, last-small (s .args .table) (s .pre .accepted .bounds)) }
 
 loop-less : tie.Need-loop-less Inv-loop μ-loop
 loop-less c = rw (asked-is (c .before .before .before .before .before)) (omega (arith, passed c))

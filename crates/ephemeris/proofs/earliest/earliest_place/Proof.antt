@@ -26,18 +26,21 @@ asked-is : (s : tie.Start Inv-loop μ-loop) → read (s .args .asked) ≡ s .arg
 asked-is s = read-is (s .args .asked) (s .fits .asked)
 
 -- D at the place, and what it points to
-delay-is : (c : tie.After-delay-at Inv-loop μ-loop) → let s = c .before .before .before .before in read (c .delay-at .result) ≡ tableDelay (s .args .table) (s .args .coefficients .now) (c .before .before .loop .place)
+delay-is : (c : tie.After-delay-at Inv-loop μ-loop) → let s =
+    c .before .before .before .before in read (c .delay-at .result) ≡ tableDelay (s .args .table) (s .args .coefficients .now) (c .before .before .loop .place)
 delay-is c = read-is _ (record { sfits = c .delay-at .ok }) ∙ c .delay-at .ensures
 
 pointed-is : (c : tie.After-pointed2 Inv-loop μ-loop) → let s = c .before .before .before .before .before in
     c .pointed2 .result ≡ held (s .args .asked +ℤ tableDelay (s .args .table) (s .args .coefficients .now) (c .before .before .before .loop .place) -ℤ S (s .args .table)) (lastPlace (s .args .table))
 pointed-is c = rw (asked-is (c .before .before .before .before .before), delay-is (c .before)) at (c .pointed2 .ensures)
 
-near : (c : tie.At-loop Inv-loop μ-loop) → let s = c .before .before in Near (s .args .table) (s .args .coefficients .now) (s .args .asked) (c .loop .place) (reach (c .loop .turns))
+near : (c : tie.At-loop Inv-loop μ-loop) → let s =
+    c .before .before in Near (s .args .table) (s .args .coefficients .now) (s .args .asked) (c .loop .place) (reach (c .loop .turns))
 near c = rw (asked-is (c .before .before)) at (c .loop .inv .1)
 
 -- after the last turn
-settled : (c : tie.After-loop Inv-loop μ-loop) → let s = c .before .before .before in FromHere (s .args .table) (s .args .coefficients .now) (s .args .asked) (c .before .loop .place - 1)
+settled : (c : tie.After-loop Inv-loop μ-loop) → let s =
+    c .before .before .before in FromHere (s .args .table) (s .args .coefficients .now) (s .args .asked) (c .before .loop .place - 1)
 settled c =
     let s = c .before .before .before in
     let four : c .before .loop .turns ≡ 4 = omega (arith, c .before .loop .inv .0, c .loop-test .left) in

@@ -70,7 +70,8 @@ module _ (T : Table) (d : ℤ) (f : SFits w64 d) (D : Delayed T d) where
         let h = le-yes asked (S T -ℤ d) (rw (read-is asked a, first-is) at e) in
         omega (arith, held-low (asked +ℤ d -ℤ S T) (lastPlace T) 0 (not-after asked (S T) d h))
 
-    at-last : (last : ℕ) → last ≡ lastPlace T → Safe T d last → leZ (read (read (firstOf T d) +ℤ toZ w64 last)) (read asked) ≡ true → last ≡ held (asked +ℤ d -ℤ S T) (lastPlace T)
+    at-last : (last : ℕ) → last ≡ lastPlace T → Safe T d last → leZ (read (read (firstOf T d) +ℤ toZ w64 last)) (read asked) ≡ true
+        → last ≡ held (asked +ℤ d -ℤ S T) (lastPlace T)
     at-last last l s e =
         let h = le-yes ((S T -ℤ d) +ℤ pos (lastPlace T)) asked (rw (read-is asked a, s .end-is) at e) in
         let z = asked +ℤ d -ℤ S T in
@@ -81,7 +82,8 @@ module _ (T : Table) (d : ℤ) (f : SFits w64 d) (D : Delayed T d) where
       cast : lib.Dec.T (nonNeg (read (read asked -ℤ read (firstOf T d)))) × Fits w64 (natAbs (read (read asked -ℤ read (firstOf T d))))
       is : natAbs (read (read asked -ℤ read (firstOf T d))) ≡ held (asked +ℤ d -ℤ S T) (lastPlace T)
 
-    between : (last : ℕ) → Safe T d last → leZ (read asked) (read (firstOf T d)) ≡ false → leZ (read (read (firstOf T d) +ℤ toZ w64 last)) (read asked) ≡ false → Between
+    between : (last : ℕ) → Safe T d last → leZ (read asked) (read (firstOf T d)) ≡ false → leZ (read (read (firstOf T d) +ℤ toZ w64 last)) (read asked) ≡ false
+        → Between
     between last s e e' =
         let z = asked +ℤ d -ℤ S T in
         let l = above asked (S T) d (le-no asked (S T -ℤ d) (rw (read-is asked a, first-is) at e)) in
@@ -96,10 +98,14 @@ module _ (T : Table) (d : ℤ) (f : SFits w64 d) (D : Delayed T d) where
         }
 
 -- ---- at the places of the code
-ended : (c : tie.After-last-place) → Safe (c .before .before .before .before .args .table) (c .before .before .before .before .args .delay) (c .last-place .result)
-ended c = let s = c .before .before .before .before in safe (s .args .table) (s .args .delay) (s .fits .delay) (s .pre) (c .last-place .result) (c .last-place .ensures)
+ended : (c : tie.After-last-place)
+    → Safe (c .before .before .before .before .args .table) (c .before .before .before .before .args .delay) (c .last-place .result)
+ended c =
+    let s = c .before .before .before .before in
+    safe (s .args .table) (s .args .delay) (s .fits .delay) (s .pre) (c .last-place .result) (c .last-place .ensures)
 
-amid : (c : tie.Else2) → let s = c .before .before .before .before .before in Between (s .args .table) (s .args .delay) (s .fits .delay) (s .pre) (s .args .asked) (s .fits .asked)
+amid : (c : tie.Else2) → let s =
+    c .before .before .before .before .before in Between (s .args .table) (s .args .delay) (s .fits .delay) (s .pre) (s .args .asked) (s .fits .asked)
 amid c =
     let l = c .before in
     let s = l .before .before .before .before in
@@ -109,7 +115,9 @@ sub-first : tie.Need-sub-first
 sub-first c = let s = c .before .before in first-fits (s .args .table) (s .args .delay) (s .fits .delay) (s .pre)
 
 returns : tie.Need-returns
-returns c = let s = c .before .before .before in at-first (s .args .table) (s .args .delay) (s .fits .delay) (s .pre) (s .args .asked) (s .fits .asked) (c .if1 .taken)
+returns c =
+    let s = c .before .before .before in
+    at-first (s .args .table) (s .args .delay) (s .fits .delay) (s .pre) (s .args .asked) (s .fits .asked) (c .if1 .taken)
 
 last-place-requires : tie.Need-last-place-requires
 last-place-requires c κs = search needs

@@ -104,7 +104,11 @@ delay-requires : tie.Need-delay-requires
 delay-requires c κs = search needs
 
 returns : tie.Need-returns
-returns c = read-is _ (record { sfits = c .delay .ok }) ∙ c .delay .ensures ∙ ap delayOf (c .before .value .ensures) ∙ all (c .before .before .before .before .before .before) .is
+returns c =
+    read-is _ (record { sfits = c .delay .ok })
+    ∙ c .delay .ensures
+    ∙ ap delayOf (c .before .value .ensures)
+    ∙ all (c .before .before .before .before .before .before) .is
 
 pub delay-at-spec : {M : Type 1} → statement M
 delay-at-spec =

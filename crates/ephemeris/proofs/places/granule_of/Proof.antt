@@ -17,7 +17,10 @@ cast-count c = search needs
 
 returns : tie.Need-returns
 unfolding granuleOf
-returns c = let s = c .before .before .before .before in let h = rw (length-is (s .args .table) (s .pre)) at (c .if1 .taken) in rw (length-is (s .args .table) (s .pre)) (omega arith)
+returns c =
+    let s = c .before .before .before .before in
+    let h = rw (length-is (s .args .table) (s .pre)) at (c .if1 .taken) in
+    rw (length-is (s .args .table) (s .pre)) (omega arith)
 
 sub-result : tie.Need-sub-result
 sub-result c = search needs

@@ -17,7 +17,8 @@ module _ (c : tie.After-delay-at) where
   unfolding tickAt
   tick-is = read-is _ (record { sfits = c .before .tick-at .ok }) ∙ c .before .tick-at .ensures
 
-  delay-is : read (c .delay-at .result) ≡ tableDelay (c .before .before .args .table) (c .before .before .args .coefficients .now) (c .before .before .args .place)
+  delay-is : read (c .delay-at .result)
+      ≡ tableDelay (c .before .before .args .table) (c .before .before .args .coefficients .now) (c .before .before .args .place)
   delay-is = read-is _ (record { sfits = c .delay-at .ok }) ∙ c .delay-at .ensures
 
   fits : SFits w64 (S (c .before .before .args .table) +ℤ pos (c .before .before .args .place) -ℤ tableDelay (c .before .before .args .table) (c .before .before .args .coefficients .now) (c .before .before .args .place))

@@ -45,10 +45,15 @@ is-free-requires : tie.Need-is-free-requires
 is-free-requires c κs = search needs
 
 returns : tie.Need-returns
-returns c = let s = c .before .before in none (s .args .count) (s .args .degree) (s .args .k) (s .args .j) (sym (c .before .is-free .ensures) ∙ not-true _ (c .if1 .taken)) (s .pre .place)
+returns c =
+    let s = c .before .before in
+    none (s .args .count) (s .args .degree) (s .args .k) (s .args .j) (sym (c .before .is-free .ensures) ∙ not-true _ (c .if1 .taken)) (s .pre .place)
 
 returns-2 : tie.Need-returns-2
-returns-2 c = let e = c .before in let s = e .before .before in one (s .args .count) (s .args .degree) (s .args .k) (s .args .j) (sym (e .before .is-free .ensures) ∙ not-false _ (e .if1 .left)) (s .pre .place)
+returns-2 c =
+    let e = c .before in
+    let s = e .before .before in
+    one (s .args .count) (s .args .degree) (s .args .k) (s .args .j) (sym (e .before .is-free .ensures) ∙ not-false _ (e .if1 .left)) (s .pre .place)
 
 sub-result : tie.Need-sub-result
 sub-result c = slot c .low

@@ -13,19 +13,22 @@ use Rattle.image.proofs.form.lowest_unformed.Statement.{statement}
 use Rattle.image.proofs.form.lowest_unformed.Tie as tie
 
 abbrev Inv-loop : tie.InvT-loop
-Inv-loop bytes count degree first blocks found₀ k j₀ found j = (found ≡ blocks) × (j ≤ 508) × ((i : ℕ) → i < j → isRight count degree k (block bytes k) i ≡ true)
+Inv-loop bytes count degree first blocks found₀ k j₀ found j =
+    (found ≡ blocks) × (j ≤ 508) × ((i : ℕ) → i < j → isRight count degree k (block bytes k) i ≡ true)
 
 abbrev μ-loop : tie.MeasureT-loop
 μ-loop bytes count degree first blocks found₀ k j₀ found j = 508 - j
 
 abbrev Inv-blocks2 : tie.InvT-blocks2
-Inv-blocks2 bytes count degree first blocks found₀ k₀ found k = (found ≡ blocks) × (k ≤ blocks) × ((i : ℕ) → i < k → isFormed count degree i (block bytes i) ≡ true)
+Inv-blocks2 bytes count degree first blocks found₀ k₀ found k =
+    (found ≡ blocks) × (k ≤ blocks) × ((i : ℕ) → i < k → isFormed count degree i (block bytes i) ≡ true)
 
 abbrev μ-blocks2 : tie.MeasureT-blocks2
 μ-blocks2 bytes count degree first blocks found₀ k₀ found k = blocks - k
 
 -- past a run of right bytes
-over-run : (G n k : ℕ) (f : ℕ → ℕ) (j r : ℕ) → ((i : ℕ) → i < j → isRight G n k f i ≡ true) → RightRun G n k f j r → (i : ℕ) → i < j + r → isRight G n k f i ≡ true
+over-run : (G n k : ℕ) (f : ℕ → ℕ) (j r : ℕ) → ((i : ℕ) → i < j → isRight G n k f i ≡ true) → RightRun G n k f j r → (i : ℕ) → i < j + r
+    → isRight G n k f i ≡ true
 over-run G n k f j r h run i l = go (decLt i j)
   where
     go : Dec (i < j) → isRight G n k f i ≡ true

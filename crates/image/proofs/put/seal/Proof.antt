@@ -49,7 +49,9 @@ same-length : tie.Need-same-length
 same-length c = search needs
 
 returns : tie.Need-returns
-returns c = let s = c .before .before .before in seal-is (s .args .image .now) (s .args .at) (c .check-of .result .a) (c .check-of .result .b) (s .pre) (c .check-of .ensures .0) (c .check-of .ensures .1)
+returns c =
+    let s = c .before .before .before in
+    seal-is (s .args .image .now) (s .args .at) (c .check-of .result .a) (c .check-of .result .b) (s .pre) (c .check-of .ensures .0) (c .check-of .ensures .1)
 
 pub seal-spec : {M : Type 1} → statement M
 seal-spec =

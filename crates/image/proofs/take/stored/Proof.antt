@@ -16,12 +16,14 @@ use Rattle.image.proofs.take.stored.Statement.{statement}
 use Rattle.image.proofs.take.stored.Tie as tie
 
 abbrev Inv-loop : tie.InvT-loop
-Inv-loop bytes granule coefficients₀ m₀ coefficients m = (m ≤ 16) × (length coefficients ≡ 16) × ((j : ℕ) → j < m → getD coefficients j (pos 0) ≡ coefficientAt bytes granule j)
+Inv-loop bytes granule coefficients₀ m₀ coefficients m =
+    (m ≤ 16) × (length coefficients ≡ 16) × ((j : ℕ) → j < m → getD coefficients j (pos 0) ≡ coefficientAt bytes granule j)
 
 abbrev μ-loop : tie.MeasureT-loop
 μ-loop bytes granule coefficients₀ m₀ coefficients m = 16 - m
 
-here : (c : tie.In-loop Inv-loop μ-loop) → placeOf (c .before .before .before .args .granule) (c .before .loop .m) + 8 ≤ length (c .before .before .before .args .bytes .now)
+here : (c : tie.In-loop Inv-loop μ-loop)
+    → placeOf (c .before .before .before .args .granule) (c .before .loop .m) + 8 ≤ length (c .before .before .before .args .bytes .now)
 here c =
     let s = c .before .before .before in
     stored-fits (s .args .granule) (c .before .loop .m) _ (omega arith) (s .pre .long)

@@ -22,7 +22,9 @@ Inv-loop bytes count degree coefficients₀ i₀ coefficients i = (i ≤ length 
 abbrev μ-loop : tie.MeasureT-loop
 μ-loop bytes count degree coefficients₀ i₀ coefficients i = length coefficients₀ - i
 
-room : (c : tie.In-loop Inv-loop μ-loop) → placeOf (c .before .loop .i / (c .before .before .before .args .degree + 1)) (c .before .loop .i % (c .before .before .before .args .degree + 1)) + 8 ≤ blocksOf (c .before .before .before .args .count) * 512
+room : (c : tie.In-loop Inv-loop μ-loop)
+    → placeOf (c .before .loop .i / (c .before .before .before .args .degree + 1)) (c .before .loop .i % (c .before .before .before .args .degree + 1)) + 8
+    ≤ blocksOf (c .before .before .before .args .count) * 512
 room c =
     let s = c .before .before .before in
     place-fits (s .args .count) (s .args .degree) (c .before .loop .i) (s .pre .degree) (omega arith)

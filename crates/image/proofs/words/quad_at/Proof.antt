@@ -18,7 +18,8 @@ module _ (b : List ℕ) (at : ℕ) where
   of-part : (u : ℕ) → u < 4 → getD part u 0 ≡ from b at u
   of-part u h = getD-take (at + 4 - at) (drop at b) u 0 (omega arith) ∙ getD-drop at b u 0
 
-  all-four : (b0 b1 b2 b3 : ℕ) → b0 ≡ getD part 0 0 → b1 ≡ getD part 1 0 → b2 ≡ getD part 2 0 → b3 ≡ getD part 3 0 → b0 + 256 * b1 + 65536 * b2 + 16777216 * b3 ≡ quadAt b at
+  all-four : (b0 b1 b2 b3 : ℕ) → b0 ≡ getD part 0 0 → b1 ≡ getD part 1 0 → b2 ≡ getD part 2 0 → b3 ≡ getD part 3 0
+      → b0 + 256 * b1 + 65536 * b2 + 16777216 * b3 ≡ quadAt b at
   all-four b0 b1 b2 b3 e0 e1 e2 e3 =
       let z : b0 ≡ getD b at 0 = e0 ∙ of-part 0 (omega arith) ∙ ap (λ (x : ℕ). getD b x 0) (add-zero at) in
       rw (z, e1 ∙ of-part 1 (omega arith), e2 ∙ of-part 2 (omega arith), e3 ∙ of-part 3 (omega arith))

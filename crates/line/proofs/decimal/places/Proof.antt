@@ -1,4 +1,5 @@
--- `line::decimal::places` meets its contract: the digits counted, and those of what is left, make up the number's; the measure is what is left. Assumes nothing.
+-- `line::decimal::places` meets its contract: the digits counted, and those of what is left, make up the number's; the measure is what is left. Assumes
+-- nothing.
 use mathlib.Core.Path.{_≡_, refl}
 use Prim.Native.Nat.{_+_, _≤_}
 use native.Mathlib.Omega.{arith}

@@ -15,7 +15,8 @@ use Rattle.line.proofs.decimal.put_decimal.Tie as tie
 
 module _ (out : List ℕ) (at rest : ℕ) where
   -- a digit stored leaves those before it
-  digit : (i : ℕ) → 10 ≤ rest → i ≡ at + length (decimal rest) → i ≤ length out → withText (set out (i - 1) (48 + rest % 10)) at (decimal (rest / 10)) ≡ withText out at (decimal rest)
+  digit : (i : ℕ) → 10 ≤ rest → i ≡ at + length (decimal rest) → i ≤ length out
+      → withText (set out (i - 1) (48 + rest % 10)) at (decimal (rest / 10)) ≡ withText out at (decimal rest)
   digit i h e l =
       let m = length-more rest h in
       let p : i - 1 ≡ at + length (decimal (rest / 10)) = omega arith in
@@ -27,7 +28,8 @@ module _ (out : List ℕ) (at rest : ℕ) where
   first h l = with-byte out at (48 + rest) l ∙ ap (withText out at) (sym (decimal-one rest h))
 
 abbrev Inv-loop : tie.InvT-loop
-Inv-loop out₀ at n end i₀ rest₀ out i rest = (length out ≡ length out₀) × (i ≡ at + length (decimal rest)) × (i ≤ length out) × (withText out at (decimal rest) ≡ withText out₀ at (decimal n))
+Inv-loop out₀ at n end i₀ rest₀ out i rest =
+    (length out ≡ length out₀) × (i ≡ at + length (decimal rest)) × (i ≤ length out) × (withText out at (decimal rest) ≡ withText out₀ at (decimal n))
 
 abbrev μ-loop : tie.MeasureT-loop
 μ-loop out₀ at n end i₀ rest₀ out i rest = rest

@@ -71,7 +71,9 @@ size-below-zero-requires : tie.Need-size-below-zero-requires
 size-below-zero-requires c κs = rw (back (c .before .before .before)) (negative (c .before))
 
 put-decimal-requires : tie.Need-put-decimal-requires
-put-decimal-requires c κs = let s = c .before .before .before .before in size-room (s .args .out .now) (s .args .at) (s .args .z) (negative (c .before .before)) (s .pre) _ _ (sized c)
+put-decimal-requires c κs =
+    let s = c .before .before .before .before in
+    size-room (s .args .out .now) (s .args .at) (s .args .z) (negative (c .before .before)) (s .pre) _ _ (sized c)
 
 cast-put-decimal : tie.Need-cast-put-decimal
 cast-put-decimal c = rw (back (c .before .before .before)) (other (c .before) .cast)

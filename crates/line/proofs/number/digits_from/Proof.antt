@@ -29,7 +29,8 @@ module _ (text : List ℕ) (value end : ℕ) (h : end < length text) where
   stopped : capped value ≡ value → isDigit (getD text end 0) ≡ false → onward value end (drop end text) ≡ record { value = value; end = end }
   stopped c d = ap (onward value end) here ∙ onward-stop value end _ _ d c
 
-  digit : 48 ≤ getD text end 0 → getD text end 0 ≤ 57 → onward value end (drop end text) ≡ onward (capped (10 * value + (getD text end 0 - 48))) (end + 1) (drop (end + 1) text)
+  digit : 48 ≤ getD text end 0 → getD text end 0 ≤ 57
+      → onward value end (drop end text) ≡ onward (capped (10 * value + (getD text end 0 - 48))) (end + 1) (drop (end + 1) text)
   digit l g = ap (onward value end) here ∙ onward-digit value end _ _ (is-digit _ l g)
 
 loop-holds : tie.Need-loop-holds Inv-loop μ-loop
@@ -44,7 +45,8 @@ wide-requires c κs = search needs
 returns : tie.Need-returns Inv-loop μ-loop
 returns c =
     let o = c .before .before .before .before in
-    sym (stopped _ _ _ (c .before .before .before .loop-test .taken) (o .loop .inv .1) (below-digits _ (omega (arith, c .before .wide .ensures .0)))) ∙ o .loop .inv .2
+    sym (stopped _ _ _ (c .before .before .before .loop-test .taken) (o .loop .inv .1) (below-digits _ (omega (arith, c .before .wide .ensures .0))))
+    ∙ o .loop .inv .2
 
 returns-2 : tie.Need-returns-2 Inv-loop μ-loop
 returns-2 c =

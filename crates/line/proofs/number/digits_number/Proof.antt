@@ -59,7 +59,8 @@ module _ (negative : Bool) (text : List ℕ) (at : ℕ) (run : Run) (is : run �
   at-space : run .end < length text → getD text (run .end) 0 ≡ 32 → field front ≡ digitsOf front
   at-space h g = run-space front (simp length-drop (omega (arith, ends))) (next ∙ g)
 
-  right : (run .end ≡ at → ⊥) → run .end - at ≤ 20 → field front ≡ digitsOf front → foundAt (fitting (signed negative (run .value))) (run .end) ≡ digitsAt negative text at
+  right : (run .end ≡ at → ⊥) → run .end - at ≤ 20 → field front ≡ digitsOf front
+      → foundAt (fitting (signed negative (run .value))) (run .end) ≡ digitsAt negative text at
   unfolding digitsAt
   right n h e =
       let l : 1 ≤ length (digitsOf front) = omega (arith, ends, n) in

@@ -1,5 +1,5 @@
--- `line::number::with_sign` meets its contract: each way out is one of the cases of `Fitting`. A negative number −n is −1 − (n − 1), so that −2^63 needs no case
--- of its own. Assumes nothing.
+-- `line::number::with_sign` meets its contract: each way out is one of the cases of `Fitting`. A negative number −n is −1 − (n − 1), so that −2^63 needs no
+-- case of its own. Assumes nothing.
 use borrow.Author.Needs.{needs}
 use mathlib.Core.Path.{_≡_, sym, _∙_, ap}
 use mathlib.Core.Bool.{Bool, true, false}
@@ -19,7 +19,8 @@ use Rattle.line.proofs.number.with_sign.Statement.{statement}
 use Rattle.line.proofs.number.with_sign.Tie as tie
 
 -- the answer for a sign that a test has shown
-signed-so : (negative sign : Bool) (size end : ℕ) (r : Scanned) → negative ≡ sign → r ≡ foundAt (fitting (signed sign size)) end → r ≡ foundAt (fitting (signed negative size)) end
+signed-so : (negative sign : Bool) (size end : ℕ) (r : Scanned) → negative ≡ sign → r ≡ foundAt (fitting (signed sign size)) end
+    → r ≡ foundAt (fitting (signed negative size)) end
 signed-so negative sign size end r s e = e ∙ ap (λ (b : Bool). foundAt (fitting (signed b size)) end) (sym s)
 
 module _ (size : ℕ) (above : 0 < size) (below : size ≤ 2 ^ 63) where
@@ -60,7 +61,9 @@ returns-2 : tie.Need-returns-2
 returns-2 c = let a = c .before .before .before .args in signed-so _ true (a .size) (a .end) _ (c .before .before .if1 .taken) (rw (c .if3 .taken, minus-zero))
 
 returns-3 : tie.Need-returns-3
-returns-3 c = let a = c .before .before .before .args in signed-so _ true (a .size) (a .end) _ (c .before .before .if1 .taken) (minus-is (a .size) (omega arith) (omega arith) (a .end))
+returns-3 c =
+    let a = c .before .before .before .args in
+    signed-so _ true (a .size) (a .end) _ (c .before .before .if1 .taken) (minus-is (a .size) (omega arith) (omega arith) (a .end))
 
 returns-4 : tie.Need-returns-4
 returns-4 c = let a = c .before .before .args in signed-so _ false (a .size) (a .end) _ (c .before .if1 .left) (rw (plus-far (a .size) (omega arith)))

@@ -63,7 +63,8 @@ module _ (text : List ℕ) (line : ℕ) where
     two-only : length text ≤ two .end → lineOf text line ≡ notUnderstood line
     two-only h = line-is (two .one .short) _ (after-first (two .one) (two .more) _ (number-last text (two .one .end + 1) inside (two .to) (two .end) (two .found) h))
 
-    after-second : two .end < length text → (rest : List (Option ℤ)) → numbersFrom text (two .end + 1) ≡ rest → numbersFrom text 0 ≡ some (two .one .from) ∷ some (two .to) ∷ rest
+    after-second : two .end < length text → (rest : List (Option ℤ)) → numbersFrom text (two .end + 1) ≡ rest
+        → numbersFrom text 0 ≡ some (two .one .from) ∷ some (two .to) ∷ rest
     after-second h rest e =
         after-first (two .one) (two .more) _
         (number-more text (two .one .end + 1) inside (two .to) (two .end) (two .found) h ∙ ap (λ (l : List (Option ℤ)). some (two .to) ∷ l) e)

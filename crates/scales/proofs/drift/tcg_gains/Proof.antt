@@ -1,4 +1,5 @@
--- `scales::drift::tcg_gains` meets its contract. The parts of the last sum are bounded one by one, since `omega` keeps to numbers of 38 digits. Assumes nothing.
+-- `scales::drift::tcg_gains` meets its contract. The parts of the last sum are bounded one by one, since `omega` keeps to numbers of 38 digits. Assumes
+-- nothing.
 use borrow.Author.Needs.{needs}
 use Prim.Native.Nat.{ℕ, _+_, _*_, _/_, _%_, _^_, _≤_, _<_}
 use native.Mathlib.Omega.{arith}

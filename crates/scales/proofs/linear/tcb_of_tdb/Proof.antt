@@ -1,4 +1,5 @@
--- `scales::linear::tcb_of_tdb` meets its contract: TCB is TDB and what it gains, over 65,500 more. The constants of the code are what the law asks by computation. Assumes nothing.
+-- `scales::linear::tcb_of_tdb` meets its contract: TCB is TDB and what it gains, over 65,500 more. The constants of the code are what the law asks by
+-- computation. Assumes nothing.
 use borrow.Author.Needs.{needs}
 use mathlib.Core.Path.{_≡_, refl, _∙_}
 use lib.Dec.{lit≤}

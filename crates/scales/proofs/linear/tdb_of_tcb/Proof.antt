@@ -1,4 +1,5 @@
--- `scales::linear::tdb_of_tcb` meets its contract: TDB is TCB less what it loses, and less 65,500. The constants of the code are what the law asks by computation. Assumes nothing.
+-- `scales::linear::tdb_of_tcb` meets its contract: TDB is TCB less what it loses, and less 65,500. The constants of the code are what the law asks by
+-- computation. Assumes nothing.
 use borrow.Author.Needs.{needs}
 use mathlib.Core.Path.{_≡_, refl, _∙_}
 use lib.Dec.{lit≤}

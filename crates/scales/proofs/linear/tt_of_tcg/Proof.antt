@@ -1,4 +1,5 @@
--- `scales::linear::tt_of_tcg` meets its contract: TT is TCG less what it loses. The constants of the code are what the law asks by computation. Assumes nothing.
+-- `scales::linear::tt_of_tcg` meets its contract: TT is TCG less what it loses. The constants of the code are what the law asks by computation. Assumes
+-- nothing.
 use borrow.Author.Needs.{needs}
 use mathlib.Core.Path.{_≡_, refl, _∙_}
 use lib.Dec.{lit≤}

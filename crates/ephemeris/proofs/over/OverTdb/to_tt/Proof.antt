@@ -13,7 +13,8 @@ use Rattle.ephemeris.proofs.Search.{earliest-inside}
 use Rattle.ephemeris.proofs.over.OverTdb.to_tt.Statement.{statement}
 use Rattle.ephemeris.proofs.over.OverTdb.to_tt.Tie as tie
 
-reached : (T : Table) (cs : List ℤ) (asked tick : ℤ) → isCovered T cs asked ≡ true → tick ≡ tickAt T (earliestPlace T cs asked) → Reached (record { 0 = tick }) ≡ ttStep T cs asked
+reached : (T : Table) (cs : List ℤ) (asked tick : ℤ) → isCovered T cs asked ≡ true → tick ≡ tickAt T (earliestPlace T cs asked)
+    → Reached (record { 0 = tick }) ≡ ttStep T cs asked
 unfolding ttStep ttOf
 reached T cs asked tick covered e = rw (covered, e)
 
@@ -24,10 +25,12 @@ outside T cs asked left = rw left
 asked-is : (c : tie.After-struct-told) → read (c .before .args .self .0 .0) ≡ c .before .args .self .0 .0
 asked-is c = read-is _ (record { sfits = c .struct-told .given .0 .1 .1 .0 .1 })
 
-place-is : (c : tie.After-earliest-place) → c .earliest-place .result ≡ earliestPlace (c .before .before .args .table) (c .before .before .args .coefficients .now) (c .before .before .args .self .0 .0)
+place-is : (c : tie.After-earliest-place) → c .earliest-place .result
+    ≡ earliestPlace (c .before .before .args .table) (c .before .before .args .coefficients .now) (c .before .before .args .self .0 .0)
 place-is c = rw (asked-is (c .before)) at (c .earliest-place .ensures)
 
-covered-is : (c : tie.After-covered) → c .covered .result ≡ isCovered (c .before .before .before .args .table) (c .before .before .before .args .coefficients .now) (c .before .before .before .args .self .0 .0)
+covered-is : (c : tie.After-covered) → c .covered .result
+    ≡ isCovered (c .before .before .before .args .table) (c .before .before .before .args .coefficients .now) (c .before .before .before .args .self .0 .0)
 covered-is c = rw (asked-is (c .before .before)) at (c .covered .ensures)
 
 earliest-place-requires : tie.Need-earliest-place-requires

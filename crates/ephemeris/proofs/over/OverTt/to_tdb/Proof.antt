@@ -28,7 +28,8 @@ before : (T : Table) (cs : List ℤ) (t : ℤ) → Bounded T → SFits w64 t →
 unfolding tdbStep
 before T cs t B f e = let no = before-no T t (lt-yes t (S T) (rw (read-is t f, start-is T B) at e)) in rw no
 
-behind : (T : Table) (cs : List ℤ) (t last : ℤ) → read last ≡ tickAt T (lastPlace T) → SFits w64 t → ltZ (read last) (read t) ≡ true → OutsideTable ≡ tdbStep T cs t
+behind : (T : Table) (cs : List ℤ) (t last : ℤ) → read last ≡ tickAt T (lastPlace T) → SFits w64 t → ltZ (read last) (read t) ≡ true
+    → OutsideTable ≡ tdbStep T cs t
 unfolding tdbStep
 behind T cs t last is f e = let no = after-no T t (lt-yes (tickAt T (lastPlace T)) t (rw (is, read-is t f) at e)) in rw no
 
@@ -38,7 +39,8 @@ record Inside (T : Table) (t : ℤ) : Type 0 where
   cast : lib.Dec.T (nonNeg (read (read t -ℤ read (S T)))) × Fits w64 (natAbs (read (read t -ℤ read (S T))))
   place : natAbs (read (read t -ℤ read (S T))) ≡ placeOf T t
 
-inside : (T : Table) (t last : ℤ) → Bounded T → read last ≡ tickAt T (lastPlace T) → SFits w64 t → ltZ (read t) (read (S T)) ≡ false → ltZ (read last) (read t) ≡ false → Inside T t
+inside : (T : Table) (t last : ℤ) → Bounded T → read last ≡ tickAt T (lastPlace T) → SFits w64 t → ltZ (read t) (read (S T)) ≡ false
+    → ltZ (read last) (read t) ≡ false → Inside T t
 unfolding placeOf
 inside T t last B is f l h =
     let low = lt-no t (S T) (rw (read-is t f, start-is T B) at l) in
@@ -70,8 +72,11 @@ module _ (T : Table) (cs : List ℤ) (t tdb : ℤ) (f : SFits w64 tdb) (i : Insi
 told : (c : tie.After-struct-told) → SFits w64 (c .before .args .self .0 .0)
 told c = record { sfits = c .struct-told .given .0 .1 .1 .0 .1 }
 
-last-is : (c : tie.After-tick-at) → let s = c .before .before .before .before .before in read (c .tick-at .result) ≡ tickAt (s .args .table) (lastPlace (s .args .table))
-last-is c = let s = c .before .before .before .before .before in read-is _ (record { sfits = c .tick-at .ok }) ∙ c .tick-at .ensures ∙ ap (tickAt (s .args .table)) (c .before .last-place .ensures)
+last-is : (c : tie.After-tick-at) → let s =
+    c .before .before .before .before .before in read (c .tick-at .result) ≡ tickAt (s .args .table) (lastPlace (s .args .table))
+last-is c =
+    let s = c .before .before .before .before .before in
+    read-is _ (record { sfits = c .tick-at .ok }) ∙ c .tick-at .ensures ∙ ap (tickAt (s .args .table)) (c .before .last-place .ensures)
 
 amid : (c : tie.Else2) → let s = c .before .before .before .before .before .before in Inside (s .args .table) (s .args .self .0 .0)
 amid c =
@@ -81,7 +86,9 @@ amid c =
     inside (s .args .table) (s .args .self .0 .0) (e .tick-at .result) (s .pre .bounds) (last-is e) (told (o .before .before)) (o .if1 .left) (c .if2 .left)
 
 returns : tie.Need-returns
-returns c = let s = c .before .before .before in before (s .args .table) (s .args .coefficients .now) (s .args .self .0 .0) (s .pre .bounds) (told (c .before .before)) (c .if1 .taken)
+returns c =
+    let s = c .before .before .before in
+    before (s .args .table) (s .args .coefficients .now) (s .args .self .0 .0) (s .pre .bounds) (told (c .before .before)) (c .if1 .taken)
 
 last-place-requires : tie.Need-last-place-requires
 last-place-requires c κs = search needs
