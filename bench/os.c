@@ -1,4 +1,4 @@
-/* What a program of the kit needs to open a file, for machines that the kit has no such code for. */
+/* What a program of the kit needs to open a file, where the kit has no such code for a machine. */
 #include <errno.h>
 #include <fcntl.h>
 

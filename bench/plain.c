@@ -1,5 +1,5 @@
-/* Plain C for the same answers, as src/plain has them in Rust: products in 128 bits, a table decoded once. An answer is 0, or a refusal's number with its
-   place and index told. */
+/* Plain C for the same answers, as src/plain has them in Rust: products in 128 bits, a table
+   decoded once. An answer is 0, or a refusal's number with its place and index told. */
 
 typedef unsigned char u8;
 typedef unsigned int u32;
@@ -35,7 +35,9 @@ static i64 tdb_to_tcb(i64 tdb) { return tdb + 65500 + nearest(L_B * (tdb + 65500
 
 static i64 last_of(const table *t) { return t->start + t->count * t->length; }
 
-static i64 scaled(i64 u, i64 b, int bits) { return (i64)(((i128)u * b + ((i128)1 << (bits - 1))) >> bits); }
+static i64 scaled(i64 u, i64 b, int bits) {
+    return (i64)(((i128)u * b + ((i128)1 << (bits - 1))) >> bits);
+}
 
 /* D at a tick of the table. */
 static i64 delay(const table *t, i64 tt) {
@@ -56,7 +58,9 @@ static i64 delay(const table *t, i64 tt) {
 
 static i64 tdb_at(const table *t, i64 tt) { return tt - delay(t, tt); }
 
-static i64 clamp(i64 tick, i64 least, i64 most) { return tick < least ? least : tick > most ? most : tick; }
+static i64 clamp(i64 tick, i64 least, i64 most) {
+    return tick < least ? least : tick > most ? most : tick;
+}
 
 /* The earliest tick whose TDB is at or after the one asked; whether the table reaches it. */
 static int earliest(const table *t, i64 asked, i64 *found) {
@@ -82,16 +86,25 @@ static u32 step_tcg_to_tt(const table *t, i64 *tick) { (void)t; return by(tcg_to
 static u32 step_tt_to_tcg(const table *t, i64 *tick) { (void)t; return by(tt_to_tcg, tick); }
 static u32 step_tcb_to_tdb(const table *t, i64 *tick) { (void)t; return by(tcb_to_tdb, tick); }
 static u32 step_tdb_to_tcb(const table *t, i64 *tick) { (void)t; return by(tdb_to_tcb, tick); }
-static u32 step_gps_to_tai(const table *t, i64 *tick) { (void)t; return valid(*tick += 19000000000) ? 0 : 4; }
-static u32 step_tai_to_tt(const table *t, i64 *tick) { (void)t; return valid(*tick += 32184000000) ? 0 : 4; }
+static u32 step_gps_to_tai(const table *t, i64 *tick) {
+    (void)t;
+    return valid(*tick += 19000000000) ? 0 : 4;
+}
+static u32 step_tai_to_tt(const table *t, i64 *tick) {
+    (void)t;
+    return valid(*tick += 32184000000) ? 0 : 4;
+}
 static u32 step_tdb_to_tt(const table *t, i64 *tick) { return earliest(t, *tick, tick) ? 0 : 6; }
 static u32 step_tt_to_tdb(const table *t, i64 *tick) {
     if (*tick < t->start || last_of(t) < *tick) return 6;
     return valid(*tick = tdb_at(t, *tick)) ? 0 : 4;
 }
 
-/* Every entry by the steps in turn, first into a list of our own. A 4 counts the step that led outside, a 6 does not. */
-static inline __attribute__((always_inline)) refusal batch(const i64 *ticks, u64 length, i64 *answers, const table *t, step *const *steps, u64 many) {
+/* Every entry by the steps in turn, first into a list of our own. A 4 counts the step that led
+   outside, a 6 does not. */
+static inline __attribute__((always_inline)) refusal batch(const i64 *ticks, u64 length,
+                                                           i64 *answers, const table *t,
+                                                           step *const *steps, u64 many) {
     i64 *converted = malloc(length * sizeof(i64));
     refusal told = {0, 0, 0};
     for (u64 i = 0; i < length && told.number == 0; i++) {
@@ -108,10 +121,10 @@ static inline __attribute__((always_inline)) refusal batch(const i64 *ticks, u64
     return told;
 }
 
-#define BATCH(name, ...)                                                                                \
-    refusal plain_##name(const i64 *ticks, u64 length, i64 *answers, const table *t) {                  \
-        static step *const steps[] = {__VA_ARGS__};                                                     \
-        return batch(ticks, length, answers, t, steps, sizeof steps / sizeof *steps);                   \
+#define BATCH(name, ...)                                                                           \
+    refusal plain_##name(const i64 *ticks, u64 length, i64 *answers, const table *t) {             \
+        static step *const steps[] = {__VA_ARGS__};                                                \
+        return batch(ticks, length, answers, t, steps, sizeof steps / sizeof *steps);              \
     }
 BATCH(tcg_to_tt, step_tcg_to_tt)
 BATCH(tt_to_tcg, step_tt_to_tcg)

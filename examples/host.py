@@ -4,17 +4,29 @@ Its arguments are the library as a shared object and the table's file.
 """
 
 import sys
-from ctypes import CDLL, POINTER, Structure, c_char_p, c_double, c_int64, c_size_t, c_uint32, c_uint64
+from ctypes import CDLL, POINTER, Structure
+from ctypes import c_char_p, c_double, c_int64, c_size_t, c_uint32, c_uint64
 
 GPS, TAI, TT, TCG, TDB, TCB = range(1, 7)
 
 
 class Answer(Structure):
-    _fields_ = [("number", c_uint32), ("steps", c_uint32), ("place", c_uint64), ("index", c_uint64), ("tick", c_int64)]
+    _fields_ = [
+        ("number", c_uint32),
+        ("steps", c_uint32),
+        ("place", c_uint64),
+        ("index", c_uint64),
+        ("tick", c_int64),
+    ]
 
 
 class Date(Structure):
-    _fields_ = [("number", c_uint32), ("place", c_uint64), ("first", c_double), ("second", c_double)]
+    _fields_ = [
+        ("number", c_uint32),
+        ("place", c_uint64),
+        ("first", c_double),
+        ("second", c_double),
+    ]
 
 
 class Table(Structure):

@@ -1,4 +1,5 @@
-//! A host in Rust: it judges a table, converts, runs a batch and shows two refusals. The table's file is its one argument.
+//! A host in Rust: it judges a table, converts, runs a batch and shows two refusals. The table's
+//! file is its one argument.
 
 use std::ptr::null;
 
@@ -34,7 +35,8 @@ struct Table {
     length: i64,
 }
 
-// As include/colliedash.h declares them. A length is that of the slice whose pointer stands before it.
+// As include/colliedash.h declares them. A length is that of the slice whose pointer stands before
+// it.
 #[link(name = "hosts", kind = "static")]
 unsafe extern "C" {
     fn colliedash_judge(table: *const u8, table_len: usize) -> Table;

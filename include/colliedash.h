@@ -1,30 +1,34 @@
 /* Colliedash, the timing desk: the functions that a host links (libhosts.a, x86-64).
 
-   A tick is one nanosecond. An epoch is a count of ticks past Julian date 2443144.5003725 as its scale reads it.
+   A tick is one nanosecond. An epoch is a count of ticks past Julian date 2443144.5003725 as its
+   scale reads it.
 
-   Every function answers every input. An answer's number is 0 where it is accepted, with place and index 0. Otherwise number and place are the refusal's and,
-   for a batch, index the entry's; every other field is 0, and nothing that was lent has been written. A null pointer is allowed where its length is 0. Two
-   lists that are lent at once share no memory.
+   Every function answers every input. An answer's number is 0 where it is accepted, with place and
+   index 0. Otherwise number and place are the refusal's and, for a batch, index the entry's; every
+   other field is 0, and nothing that was lent has been written. A null pointer is allowed where its
+   length is 0. Two lists that are lent at once share no memory.
 
    Scale codes: 1 GPS, 2 TAI, 3 TT, 4 TCG, 5 TDB, 6 TCB; 0 is read as TT.
 
-   number  when                                                              place
-   1       a scale code is above 6                                           0 from, 1 to
-   2       a double is NaN or infinite                                       part, 0 or 1
-   3       a date part lies beyond 5,000,000 days, seconds beyond 10^10      part, 0 or 1
-   4       an epoch lies outside -6*10^18 .. 6*10^18                         steps done, the one that led outside counted
-   6       an epoch lies outside the table                                   steps done
-   8       the lent lengths don't fit                                        0
-   10      the bytes are not 2 to 121 whole blocks                           0
-   11      a check is wrong                                                  lowest block
-   12      a kind, edition, number, count or zero byte is wrong              lowest block
-   13      a bound is broken, or the blocks aren't 1 plus G/3 rounded up     0
-   14      a coefficient lies beyond 2^40 either way                         lowest granule
-   15      a weight lies above 2^40 or above H                               lowest granule
-   16      two granules meet with more than 1024 units between them          the later granule
+   number  when                                                            place
+   1       a scale code is above 6                                         0 from, 1 to
+   2       a double is NaN or infinite                                     part, 0 or 1
+   3       a date part lies beyond 5,000,000 days, seconds beyond 10^10    part, 0 or 1
+   4       an epoch lies outside -6*10^18 .. 6*10^18                       steps done, the one that
+                                                                           led outside counted
+   6       an epoch lies outside the table                                 steps done
+   8       the lent lengths don't fit                                      0
+   10      the bytes are not 2 to 121 whole blocks                         0
+   11      a check is wrong                                                lowest block
+   12      a kind, edition, number, count or zero byte is wrong            lowest block
+   13      a bound is broken, or the blocks aren't 1 plus G/3 rounded up   0
+   14      a coefficient lies beyond 2^40 either way                       lowest granule
+   15      a weight lies above 2^40 or above H                             lowest granule
+   16      two granules meet with more than 1024 units between them        the later granule
 
-   They are told in the order 1 (from, then to), 8, 10 to 16, 2, 3, 4 at the start, then step by step, 6 before 4. A conversion that does not cross between TT
-   and TDB never looks at the table. */
+   They are told in the order 1 (from, then to), 8, 10 to 16, 2, 3, 4 at the start, then step by
+   step, 6 before 4. A conversion that does not cross between TT and TDB never looks at the
+   table. */
 #ifndef COLLIEDASH_H
 #define COLLIEDASH_H
 
@@ -43,7 +47,8 @@ typedef struct {
     int64_t tick;
 } colliedash_answer;
 
-/* A table: its first tick (TT), the length of a granule in ticks, how many granules it has and their degree. */
+/* A table: its first tick (TT), the length of a granule in ticks, how many granules it has and
+   their degree. */
 typedef struct {
     uint32_t number;
     uint32_t count;
@@ -64,28 +69,40 @@ typedef struct {
 /* The numbers of the table that the bytes hold, or the refusal of 10 to 16 that they get. */
 colliedash_table colliedash_judge(const uint8_t *table, size_t table_len);
 
-/* The same, and its count*(degree+1) coefficients, granule by granule, in units of 1/65536 tick. The list must be exactly that long; 8 comes last. */
-colliedash_table colliedash_read_table(const uint8_t *table, size_t table_len, int64_t *coefficients, size_t coefficients_len);
+/* The same, and its count*(degree+1) coefficients, granule by granule, in units of 1/65536 tick.
+   The list must be exactly that long; 8 comes last. */
+colliedash_table colliedash_read_table(const uint8_t *table, size_t table_len,
+                                       int64_t *coefficients, size_t coefficients_len);
 
-/* Writes a table into an image of exactly (1 + count/3 rounded up)*512 bytes. 8 comes first, then 13 to 16. */
-colliedash_answer colliedash_write_table(int64_t start, int64_t length, uint32_t count, uint32_t degree, const int64_t *coefficients, size_t coefficients_len,
-                                         uint8_t *image, size_t image_len);
+/* Writes a table into an image of exactly (1 + count/3 rounded up)*512 bytes. 8 comes first, then
+   13 to 16. */
+colliedash_answer colliedash_write_table(int64_t start, int64_t length, uint32_t count,
+                                         uint32_t degree, const int64_t *coefficients,
+                                         size_t coefficients_len, uint8_t *image,
+                                         size_t image_len);
 
-/* A tick as a date: first is the last Julian date ending in .5 not after it, exact; second the part of a day since then, from 0 to below 1. Or refusal 4. */
+/* A tick as a date: first is the last Julian date ending in .5 not after it, exact; second the part
+   of a day since then, from 0 to below 1. Or refusal 4. */
 colliedash_date colliedash_write_date(int64_t tick);
 
-/* Converts a tick of the scale `from` into the scale `to`, over the table that the bytes hold: its tick there, and the steps walked, 0 to 4. */
-colliedash_answer colliedash_convert_ticks(uint32_t from, uint32_t to, int64_t tick, const uint8_t *table, size_t table_len);
+/* Converts a tick of the scale `from` into the scale `to`, over the table that the bytes hold: its
+   tick there, and the steps walked, 0 to 4. */
+colliedash_answer colliedash_convert_ticks(uint32_t from, uint32_t to, int64_t tick,
+                                           const uint8_t *table, size_t table_len);
 
-/* The same of a Julian date in two parts, in days: each part is rounded to its nearest tick and the two are added. */
-colliedash_answer colliedash_convert_date(uint32_t from, uint32_t to, double first, double second, const uint8_t *table, size_t table_len);
+/* The same of a Julian date in two parts, in days: each part is rounded to its nearest tick and the
+   two are added. */
+colliedash_answer colliedash_convert_date(uint32_t from, uint32_t to, double first, double second,
+                                          const uint8_t *table, size_t table_len);
 
 /* The same of seconds past J2000, which is Julian date 2451545.0 in the scale `from`. */
-colliedash_answer colliedash_convert_j2000(uint32_t from, uint32_t to, double seconds, const uint8_t *table, size_t table_len);
+colliedash_answer colliedash_convert_j2000(uint32_t from, uint32_t to, double seconds,
+                                           const uint8_t *table, size_t table_len);
 
-/* Converts a list of ticks into a second list of equal length: all of them, with the path's steps; or the earliest refusal, its index, and nothing is written.
-   The table is judged once. */
-colliedash_answer colliedash_batch(uint32_t from, uint32_t to, const int64_t *ticks, size_t ticks_len, int64_t *answers, size_t answers_len,
+/* Converts a list of ticks into a second list of equal length: all of them, with the path's steps;
+   or the earliest refusal, its index, and nothing is written. The table is judged once. */
+colliedash_answer colliedash_batch(uint32_t from, uint32_t to, const int64_t *ticks,
+                                   size_t ticks_len, int64_t *answers, size_t answers_len,
                                    const uint8_t *table, size_t table_len);
 
 #ifdef __cplusplus

@@ -1,5 +1,6 @@
-//! `bench`: how fast the proved library is, beside plain Rust and plain C, in one run on one machine. Before anything is timed the answers of all sides are
-//! compared, every one. `bench tickline` is the line program in plain Rust, which it times.
+//! `bench`: how fast the proved library is, beside plain Rust and plain C, in one run on one
+//! machine. Before anything is timed the answers of all sides are compared, every one. `bench
+//! tickline` is the line program in plain Rust, which it times.
 
 mod inputs;
 mod ours;

@@ -69,7 +69,8 @@ mod archive {
 
 pub use archive::colliedash_write_date as write_date;
 
-// Each function below lends what its slices are: the pointer and the length of one slice always go together.
+// Each function below lends what its slices are: the pointer and the length of one slice always go
+// together.
 
 pub fn judge(table: &[u8]) -> Table {
     unsafe { archive::colliedash_judge(table.as_ptr(), table.len()) }

@@ -1,4 +1,5 @@
-//! Plain Rust for the same answers, as a good engineer would write it from the rule book: products in 128 bits, a table decoded once, no proofs, no tricks.
+//! Plain Rust for the same answers, as a good engineer would write it from the rule book: products
+//! in 128 bits, a table decoded once, no proofs, no tricks.
 
 pub mod batch;
 pub mod convert;

@@ -24,11 +24,19 @@ pub type Batch = unsafe extern "C" fn(*const i64, usize, *mut i64, *const Table)
 macro_rules! batches {
     ($($name:ident)*) => {
         unsafe extern "C" {
-            $(pub fn $name(ticks: *const i64, length: usize, answers: *mut i64, table: *const Table) -> Refusal;)*
+            $(pub fn $name(
+                ticks: *const i64,
+                length: usize,
+                answers: *mut i64,
+                table: *const Table,
+            ) -> Refusal;)*
         }
     };
 }
-batches! { plain_tcg_to_tt plain_tt_to_tcg plain_tcb_to_tdb plain_tdb_to_tcb plain_tt_to_tdb plain_tdb_to_tt plain_gps_to_tcb }
+batches! {
+    plain_tcg_to_tt plain_tt_to_tcg plain_tcb_to_tdb plain_tdb_to_tcb
+    plain_tt_to_tdb plain_tdb_to_tt plain_gps_to_tcb
+}
 
 unsafe extern "C" {
     pub safe fn plain_write_date(tick: i64) -> crate::ours::Date;

@@ -10,8 +10,8 @@ use crate::timing::{Side, median, times};
 /// Enough for a median that stands still, where a round takes milliseconds.
 const ROUNDS: usize = 41;
 
-/// Times the sides, ours, plain Rust and, where there is one, plain C; each does so many at a time. Prints what one takes, and the median of the rounds' ratios
-/// of ours to plain Rust.
+/// Times the sides, ours, plain Rust and, where there is one, plain C; each does so many at a time.
+/// Prints what one takes, and the median of the rounds' ratios of ours to plain Rust.
 fn print_row(case: &str, many: usize, rounds: usize, mut sides: Vec<Side>) {
     let times = times(rounds, &mut sides);
     let ratios = times[0].iter().zip(&times[1]).map(|(a, b)| a / b).collect();

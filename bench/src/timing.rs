@@ -1,10 +1,11 @@
-//! Times of several sides that take turns. They are processor time, so that other programs of a busy machine count for nothing.
+//! Times of several sides that take turns. They are processor time, so that other programs of a
+//! busy machine count for nothing.
 
 /// One side of a comparison: work to be timed as a whole.
 pub type Side<'a> = Box<dyn FnMut() + 'a>;
 
-/// Nanoseconds of so many rounds, a list for each side. In a round every side runs once, so that whatever slows the machine down slows all of them; before the
-/// first each has run once.
+/// Nanoseconds of so many rounds, a list for each side. In a round every side runs once, so that
+/// whatever slows the machine down slows all of them; before the first each has run once.
 pub fn times(rounds: usize, sides: &mut [Side]) -> Vec<Vec<f64>> {
     let mut times = vec![Vec::with_capacity(rounds); sides.len()];
     for side in sides.iter_mut() {
@@ -51,7 +52,8 @@ mod libc {
     }
 }
 
-/// Nanoseconds that this process and the programs that it has run have had of a processor, on 64-bit Linux.
+/// Nanoseconds that this process and the programs that it has run have had of a processor, on
+/// 64-bit Linux.
 fn processor_time() -> f64 {
     let mut own = libc::Time::default();
     let mut children = libc::Usage::default();

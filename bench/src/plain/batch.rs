@@ -1,4 +1,5 @@
-//! Batches: "All are tried first; the earliest refusal is the batch's, with its index, and nothing is written".
+//! Batches: "All are tried first; the earliest refusal is the batch's, with its index, and nothing
+//! is written".
 
 use super::Refusal;
 use super::scales::{gps_to_tai, tai_to_tt, tdb_to_tcb, valid};

@@ -1,4 +1,5 @@
-//! A conversion along any path: its codes, its table if it crosses, its reading, its walk, in the rule book's order.
+//! A conversion along any path: its codes, its table if it crosses, its reading, its walk, in the
+//! rule book's order.
 
 use super::Refusal;
 use super::dates::read;

@@ -9,7 +9,8 @@ const ORIGIN: i128 = 211_087_684_832_184_000_000;
 /// JD 2443144.5, in ticks before the origin
 const MIDNIGHT: i64 = 32_184_000_000;
 
-/// Days to the nearest tick: the double's digits times a day, shifted by its exponent. Below 5,000,000 days the shift is to the right.
+/// Days to the nearest tick: the double's digits times a day, shifted by its exponent. Below
+/// 5,000,000 days the shift is to the right.
 fn ticks(days: f64) -> i128 {
     let bits = days.to_bits();
     let field = (bits >> 52) as i32 & 0x7ff;

@@ -48,7 +48,8 @@ impl Table {
         tt - self.delay(tt)
     }
 
-    /// The earliest tick whose TDB is at or after the one asked, if the table reaches it. D hardly moves, so the first guess is a tick off at most.
+    /// The earliest tick whose TDB is at or after the one asked, if the table reaches it. D hardly
+    /// moves, so the first guess is a tick off at most.
     pub fn earliest(&self, asked: i64) -> Option<i64> {
         let last = self.last();
         let near = asked.clamp(self.start, last);

@@ -75,7 +75,8 @@ const OVER_THE_TABLE: [Path; 3] = [
     },
 ];
 
-/// All sides convert the list and answer the same; and where its middle entry is spoilt they refuse the same, and write nothing.
+/// All sides convert the list and answer the same; and where its middle entry is spoilt they refuse
+/// the same, and write nothing.
 fn compare(path: &Path, ticks: &[i64], bytes: &[u8], table: &Table) {
     for spoilt in [None, Some(i64::MAX), Some(5_999_999_999_999_999_999)] {
         let mut ticks = ticks.to_vec();

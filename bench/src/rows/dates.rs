@@ -12,7 +12,8 @@ use std::hint::black_box;
 const MANY: usize = 100_000;
 const TT: u32 = 3;
 
-/// All sides write each tick alike, and convert what was written alike, and refuse alike what is no date.
+/// All sides write each tick alike, and convert what was written alike, and refuse alike what is no
+/// date.
 fn compare(ticks: &[i64]) {
     for tick in ticks.iter().copied().chain([i64::MIN, i64::MAX]) {
         let ours = ours::write_date(tick);

@@ -1,4 +1,5 @@
-//! The line program `tickline`, of a million lines, beside plain Rust's and the second program's. The rows are there where `bench/build` has made the program for this machine.
+//! The line program `tickline`, of a million lines, beside plain Rust's and the second program's.
+//! The rows are there where `bench/build` has made the program for this machine.
 
 use super::{print_growth, print_row};
 use crate::inputs::lines;

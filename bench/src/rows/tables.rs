@@ -10,7 +10,8 @@ const MANY: usize = 100;
 /// Granules, three to a block.
 const GRANULES: [u32; 3] = [30, 90, 180];
 
-/// Both sides judge the bytes alike, as they are and with any one byte of the first two blocks or the last spoilt.
+/// Both sides judge the bytes alike, as they are and with any one byte of the first two blocks or
+/// the last spoilt.
 fn compare(bytes: &[u8]) {
     let mut bytes = bytes.to_vec();
     let length = bytes.len();

@@ -1,5 +1,2 @@
 pub mod Answers
-pub mod Bounds
-pub mod Tests
 pub mod Judging
-pub mod Pass

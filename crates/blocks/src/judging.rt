@@ -1,16 +1,27 @@
 // Judging table bytes.
 use crate::answer::Judged;
-use crate::answer::refused;
-use crate::bounds::bounded;
-use crate::bounds::whole;
-use crate::granules::judge_stored;
-use image::check::lowest_unchecked;
-use image::form::lowest_unformed;
+use crate::told::refused;
+use crate::told::tested;
+use form::lowest_unformed;
+use granules::test_stored;
+use image::bounds::bounded;
 use image::table::table_of;
+use words::check::lowest_unchecked;
 ghost use mathlib.Core.Path.{_≡_};
-ghost use Rattle.blocks.specs.Judging.{judged};
+ghost use Rattle.blocks.specs.Judging.{isWhole, judged};
 
-// The table's numbers, or the first of refusals 10, 11, 12 (block 0), 13, 12 (others), 14, 15, 16, 'each test over all blocks before the next'.
+// Whether so many bytes are '2 to 121 whole blocks'.
+fn whole(length: usize) -> bool
+    ensures { λ r. ⌜ r ≡ isWhole length ⌝ }
+{
+    if length % 512 != 0 {
+        return false;
+    }
+    1024 <= length && length <= 61_952
+}
+
+// The table's numbers, or the first of refusals 10, 11, 12 (block 0), 13, 12 (others), 14, 15, 16,
+// 'each test over all blocks before the next'.
 pub fn judge(bytes: &[u8]) -> Judged
     ensures { λ r. ⌜ r ≡ judged (now (bytes .entry)) ⌝ }
 {
@@ -39,5 +50,5 @@ pub fn judge(bytes: &[u8]) -> Judged
     if unformed < blocks {
         return refused(12, unformed);
     }
-    judge_stored(bytes, table)
+    tested(table, test_stored(bytes, table))
 }

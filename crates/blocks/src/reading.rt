@@ -1,17 +1,16 @@
 // Reading a table out of bytes.
 use crate::answer::Judged;
-use crate::answer::refused;
 use crate::judging::judge;
-use image::take::stored;
+use crate::told::refused;
 use image::take::take_coefficients;
-ghost use mathlib.Core.Path.{_≡_};
-ghost use Rattle.image.specs.Image.{storedOf};
-ghost use Rattle.blocks.specs.Judging.{HasRead, InTable};
+ghost use Rattle.blocks.specs.Judging.{HasRead};
 
-// The table's numbers, and its coefficients into the list: 'Reading hands the coefficients into a list of exactly G·(n+1); there 8 comes after the table's own
-// numbers.' On any refusal the list stays as it was.
+// The table's numbers, and its coefficients into the list: 'Reading hands the coefficients into a
+// list of exactly G·(n+1); there 8 comes after the table's own numbers.' On any refusal the list
+// stays as it was.
 pub fn read(bytes: &[u8], coefficients: &mut [i64]) -> Judged
-    ensures { λ r. ⌜ HasRead (now (bytes .entry)) (now (coefficients .entry)) (now (coefficients .exit)) r ⌝ }
+    ensures { λ r. ⌜ HasRead (now (bytes .entry)) (now (coefficients .entry))
+        (now (coefficients .exit)) r ⌝ }
 {
     match judge(bytes) {
         Judged::Refused(refusal) => Judged::Refused(refusal),
@@ -25,12 +24,4 @@ pub fn read(bytes: &[u8], coefficients: &mut [i64]) -> Judged
             Judged::Accepted(table)
         }
     }
-}
-
-// The sixteen coefficients of a granule, those above the degree zero. The bytes have been judged, and accepted.
-pub fn coefficients_of(bytes: &[u8], granule: u32) -> [i64; 16]
-    requires { ⌜ InTable (now bytes) granule ⌝ }
-    ensures { λ r. ⌜ r ≡ storedOf (now (bytes .entry)) granule ⌝ }
-{
-    stored(bytes, granule as usize)
 }

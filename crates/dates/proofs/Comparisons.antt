@@ -1,4 +1,5 @@
--- What the comparisons of doubles say: strictly between the infinities is finite, and beyond a number k·2^j either way is `beyond`. Assumes nothing.
+-- What the comparisons of doubles say: strictly between the infinities is finite, and beyond a
+-- number k·2^j either way is `beyond`. Assumes nothing.
 use mathlib.Core.Path.{_≡_, refl, sym, ap, _∙_, subst}
 use mathlib.Core.Bool.{Bool, true, false, not, _&&_, _||_, false≢true}
 use Prim.Native.Nat.{ℕ, _+_, _*_, _^_, _<_}
@@ -37,7 +38,8 @@ le-is a b same l r = go (ltb a b) same (ltb b a)
     never true t n = n
     never false t n = t
 
-    go : (p q r : Bool) → (T p → T (not r)) → (T q → T (not r)) → (T (not p) → T (not q) → T r) → (p || (q && true)) ≡ not r
+    go : (p q r : Bool) → (T p → T (not r)) → (T q → T (not r)) → (T (not p) → T (not q) → T r)
+        → (p || (q && true)) ≡ not r
     go true q true f g h = absurd (f tt)
     go true q false f g h = refl
     go false true true f g h = absurd (g tt)
@@ -76,14 +78,18 @@ module _ (k j : ℕ) where
     abbrev limit : ℤ → ℕ
     limit e = k * 2 ^ j * down e
 
-    not-past : (m : ℕ) (e : ℤ) → (ltb (size m e) (limit e) || (eqb (size m e) (limit e) && true)) ≡ not (ltb (limit e) (m * up e))
+    not-past : (m : ℕ) (e : ℤ)
+        → (ltb (size m e) (limit e) || (eqb (size m e) (limit e) && true)) ≡ not (ltb (limit e) (m * up e))
     not-past m e =
-        le-is (size m e) (limit e) (eqb (size m e) (limit e)) (eqb→eq (size m e) (limit e)) (λ (h : size m e ≡ limit e). subst (λ (z : ℕ). T (eqb (size m e) z)) h (eqb-refl (size m e)))
+        le-is (size m e) (limit e) (eqb (size m e) (limit e)) (eqb→eq (size m e) (limit e))
+        (λ (h : size m e ≡ limit e). subst (λ (z : ℕ). T (eqb (size m e) z)) h (eqb-refl (size m e)))
         ∙ ap not (whole (m * up e) (limit e))
 
-    not-past-below : (m : ℕ) (e : ℤ) → (ltb (size m e) (limit e) || (eqb (limit e) (size m e) && true)) ≡ not (ltb (limit e) (m * up e))
+    not-past-below : (m : ℕ) (e : ℤ)
+        → (ltb (size m e) (limit e) || (eqb (limit e) (size m e) && true)) ≡ not (ltb (limit e) (m * up e))
     not-past-below m e =
-        le-is (size m e) (limit e) (eqb (limit e) (size m e)) (λ t. sym (eqb→eq (limit e) (size m e) t)) (λ (h : size m e ≡ limit e). subst (λ (z : ℕ). T (eqb z (size m e))) h (eqb-refl (size m e)))
+        le-is (size m e) (limit e) (eqb (limit e) (size m e)) (λ t. sym (eqb→eq (limit e) (size m e) t))
+        (λ (h : size m e ≡ limit e). subst (λ (z : ℕ). T (eqb z (size m e))) h (eqb-refl (size m e)))
         ∙ ap not (whole (m * up e) (limit e))
 
     apart : (m : ℕ) (e : ℤ) → T (ltb 0 (size m e + limit e))
@@ -103,7 +109,8 @@ module _ (k j : ℕ) where
     passes-above (fin false m e) h = sym h ∙ not-past m e
     passes-above (fin true m e) h = absurd (false≢true (sym h ∙ sure (ltb 0 (size m e + limit e)) _ (apart m e)))
 
-    pub passes-below : (x : Float) → le x (fin false k (pos j)) ≡ true → le (fin true k (pos j)) x ≡ passing (k * 2 ^ j) x
+    pub passes-below : (x : Float) → le x (fin false k (pos j)) ≡ true
+        → le (fin true k (pos j)) x ≡ passing (k * 2 ^ j) x
     unfolding le lt eq beyond
     passes-below nan h = absurd (false≢true h)
     passes-below (inf false) h = absurd (false≢true h)

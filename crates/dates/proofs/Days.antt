@@ -1,4 +1,5 @@
--- The day of a tick, counted from 70,000 days before JD 2443144.5, which is JD 2373144.5. Assumes nothing.
+-- The day of a tick, counted from 70,000 days before JD 2443144.5, which is JD 2373144.5. Assumes
+-- nothing.
 use mathlib.Core.Path.{_≡_, ap}
 use Prim.Native.Nat.{ℕ, _+_, _*_, _/_, _%_, _^_, _≤_}
 use native.Mathlib.Nat.{div-add-mod'}
@@ -21,11 +22,12 @@ ahead k enough = rep _ (λ a b. simp lin (omega arith))
 near : (t : ℤ) → natAbs t ≤ furthest → natAbs (t +ℤ pos 6048000032184000000) ≤ 12048000032184000000
 near = rep _ (λ a b. simp lin (omega arith))
 
-pub counted : (tick : ℤ) → natAbs tick ≤ furthest → Since tick (natAbs (tick +ℤ pos 6048000032184000000))
-counted tick h = record { is = pos-natAbs _ (yes-nonNeg (ahead _ (lit≤ tt) tick h)); few = near tick h }
+pub days-counted : (tick : ℤ) → natAbs tick ≤ furthest → Since tick (natAbs (tick +ℤ pos 6048000032184000000))
+days-counted tick h = record { is = pos-natAbs _ (yes-nonNeg (ahead _ (lit≤ tt) tick h)); few = near tick h }
 
 -- ---- its day and the ticks of the day, by one division
-shift : (n : ℕ) (t : ℤ) → pos n ≡ t +ℤ pos 6048000032184000000 → t +ℤ pos origin -ℤ pos 43200000000000 ≡ pos (n + 2373144 * 86400000000000)
+shift : (n : ℕ) (t : ℤ) → pos n ≡ t +ℤ pos 6048000032184000000
+    → t +ℤ pos origin -ℤ pos 43200000000000 ≡ pos (n + 2373144 * 86400000000000)
 shift n = rep _ (λ a b. simp lin (omega arith))
 
 module _ (tick : ℤ) (since : ℕ) (s : Since tick since) where
@@ -40,17 +42,18 @@ module _ (tick : ℤ) (since : ℕ) (s : Since tick since) where
       go : (n : ℕ) → (n + 2373144 * 86400000000000) / 86400000000000 ≡ n / 86400000000000 + 2373144
       go n = omega arith
 
-  pub first-is : pos 2 *ℤ dayOf tick +ℤ pos 1 ≡ pos (2 * (since / dayTicks) + 4746289)
-  first-is = rw day-is (ap pos (go (since / dayTicks)))
+  pub first-half-is : pos 2 *ℤ dayOf tick +ℤ pos 1 ≡ pos (2 * (since / dayTicks) + 4746289)
+  first-half-is = rw day-is (ap pos (go (since / dayTicks)))
     where
       go : (q : ℕ) → 2 * (q + 2373144) + 1 ≡ 2 * q + 4746289
       go q = omega arith
 
-  pub second-is : sinceDay tick ≡ pos (since % dayTicks)
+  pub ticks-of-day-is : sinceDay tick ≡ pos (since % dayTicks)
   unfolding sinceDay
-  second-is = rw (half-is, day-is) (go since (since / dayTicks) (since % dayTicks) (div-add-mod' since dayTicks))
+  ticks-of-day-is = rw (half-is, day-is) (go since (since / dayTicks) (since % dayTicks) (div-add-mod' since dayTicks))
     where
-      go : (n q r : ℕ) → q * 86400000000000 + r ≡ n → pos (n + 2373144 * 86400000000000) -ℤ pos 86400000000000 *ℤ pos (q + 2373144) ≡ pos r
+      go : (n q r : ℕ) → q * 86400000000000 + r ≡ n
+          → pos (n + 2373144 * 86400000000000) -ℤ pos 86400000000000 *ℤ pos (q + 2373144) ≡ pos r
       go n q r e = simp lin (omega arith)
 
   pub days-few : since / dayTicks ≤ 140000

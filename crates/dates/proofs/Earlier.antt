@@ -20,10 +20,11 @@ use Rattle.scales.specs.Tick.{isValid}
 use Rattle.dates.specs.declared.reading.Read.{Read}
 use Rattle.dates.specs.declared.reading.Read.the-variants as R
 use Rattle.dates.specs.declared.reading.Reading.the-variants.{SinceJ2000}
-use Rattle.dates.specs.Doubles.{signed, numerator, denominator, beyond}
-use Rattle.dates.specs.Ticks.{nearestTick, secondTicks, j2000, tickOfSeconds}
-use Rattle.dates.specs.Readings.{inRange, readOf, refusing, mostSeconds}
-use Rattle.dates.specs.Answers.{Accepts, numberOf, tickOf}
+use Rattle.numbers.specs.Signs.{signed}
+use Rattle.dates.specs.Doubles.{numerator, denominator, beyond}
+use Rattle.dates.specs.Ticks.{ticksRounded, secondTicks, j2000, tickOfSeconds}
+use Rattle.dates.specs.Readings.{inRange, readOf, refusedIf, mostSeconds}
+use Rattle.dates.specs.Answers.{Accepts, readNumber, readTick}
 use Rattle.dates.proofs.Values.{den-pos, signed-times}
 
 -- ---- the order of two doubles is that of their exact values
@@ -46,22 +47,23 @@ ordered true true a b (inl u) = let l = ltb→lt b a u in simp lin (omega arith)
 ordered true true a b (inr u) = let l = eqb→eq a b (and-l (eqb a b) true u) in simp lin (omega arith)
 
 -- x / c ≤ y / d, for the exact values: d·x ≤ c·y
-abbrev pub NotLater : Float → Float → Type 0
+abbrev NotLater : Float → Float → Type 0
 NotLater x y = (pos (denominator y) *ℤ numerator x) ≤ℤ (pos (denominator x) *ℤ numerator y)
 
-pub in-order : (x y : Float) → T (finite x) → T (finite y) → le x y ≡ true → NotLater x y
+doubles-in-order : (x y : Float) → T (finite x) → T (finite y) → le x y ≡ true → NotLater x y
 unfolding le numerator denominator lt eq
-in-order nan y f g h = absurd f
-in-order (inf s) y f g h = absurd f
-in-order (fin s m e) nan f g h = absurd g
-in-order (fin s m e) (inf t) f g h = absurd g
-in-order (fin s m e) (fin t n d) f g h =
+doubles-in-order nan y f g h = absurd f
+doubles-in-order (inf s) y f g h = absurd f
+doubles-in-order (fin s m e) nan f g h = absurd g
+doubles-in-order (fin s m e) (inf t) f g h = absurd g
+doubles-in-order (fin s m e) (fin t n d) f g h =
     rw (signed-times s (down d) (m * up e), signed-times t (down e) (n * up d), mul-comm (down d) (m * up e), mul-comm (down e) (n * up d))
-    (ordered s t (m * up e * down d) (n * up d * down e) (either (below s (m * up e * down d) t (n * up d * down e)) (level s (m * up e * down d) t (n * up d * down e)) h))
+    (ordered s t (m * up e * down d) (n * up d * down e)
+    (either (below s (m * up e * down d) t (n * up d * down e)) (level s (m * up e * down d) t (n * up d * down e)) h))
 
 -- ---- and the nearest ticks keep it
-nearest-keeps : (per : ℕ) (x y : Float) → NotLater x y → nearestTick per x ≤ℤ nearestTick per y
-unfolding nearestTick
+nearest-keeps : (per : ℕ) (x y : Float) → NotLater x y → ticksRounded per x ≤ℤ ticksRounded per y
+unfolding ticksRounded
 nearest-keeps per x y h =
     let c = denominator x in
     let d = denominator y in
@@ -69,32 +71,36 @@ nearest-keeps per x y h =
     let q = pos per *ℤ numerator y in
     let left : nearest (pos d *ℤ p) (d * c) ≡ nearest p c = nearest-reduced p c d (den-pos x) (den-pos y) in
     let right : nearest (pos c *ℤ q) (d * c) ≡ nearest q d = ap (nearest (pos c *ℤ q)) (mul-comm d c) ∙ nearest-reduced q d c (den-pos y) (den-pos x) in
-    let l : (pos d *ℤ p) ≤ℤ (pos c *ℤ q) = rw (*-left-comm (pos d) (pos per) (numerator x), *-left-comm (pos c) (pos per) (numerator y)) (*-mono per (pos d *ℤ numerator x) (pos c *ℤ numerator y) h) in
+    let l : (pos d *ℤ p) ≤ℤ (pos c *ℤ q) =
+    rw (*-left-comm (pos d) (pos per) (numerator x), *-left-comm (pos c) (pos per) (numerator y))
+    (*-mono per (pos d *ℤ numerator x) (pos c *ℤ numerator y) h) in
     rw (← left, ← right) (nearest-order (pos d *ℤ p) (pos c *ℤ q) (d * c) (mul-pos (den-pos y) (den-pos x)) l)
 
 moved : (x y k : ℤ) → x ≤ℤ y → (x +ℤ k) ≤ℤ (y +ℤ k)
 moved = rep₃ _ (λ a b c d e f. simp lin (omega arith))
 
-pub ticks-in-order : (x y : Float) → NotLater x y → tickOfSeconds x ≤ℤ tickOfSeconds y
+ticks-in-order : (x y : Float) → NotLater x y → tickOfSeconds x ≤ℤ tickOfSeconds y
 unfolding tickOfSeconds
-ticks-in-order x y h = moved (nearestTick secondTicks x) (nearestTick secondTicks y) j2000 (nearest-keeps secondTicks x y h)
+ticks-in-order x y h = moved (ticksRounded secondTicks x) (ticksRounded secondTicks y) j2000 (nearest-keeps secondTicks x y h)
 
 -- ---- an accepted reading of seconds is finite, and its tick is the rule's
 accepted : (x : Float) (tick : ℤ) → Accepts (readOf (SinceJ2000 x)) tick → (T (finite x)) × (tickOfSeconds x ≡ tick)
-unfolding readOf inRange numberOf tickOf
+unfolding readOf inRange readNumber readTick
 accepted x tick h = go (finite x) (beyond mostSeconds x) (isValid (tickOfSeconds x)) (h .0) (h .1)
   where
     answer : (f b v : Bool) → Read
-    answer f b v = refusing (not f) 2 0 (refusing b 3 0 (refusing (not v) 4 0 (R.Tick (tickOfSeconds x))))
+    answer f b v = refusedIf (not f) 2 0 (refusedIf b 3 0 (refusedIf (not v) 4 0 (R.Tick (tickOfSeconds x))))
 
-    go : (f b v : Bool) → numberOf (answer f b v) ≡ 0 → tickOf (answer f b v) ≡ tick → (T f) × (tickOfSeconds x ≡ tick)
+    go : (f b v : Bool) → readNumber (answer f b v) ≡ 0 → readTick (answer f b v) ≡ tick
+        → (T f) × (tickOfSeconds x ≡ tick)
     go true false true n t = (tt, t)
     go true false false n t = let no : ⊥ = omega arith in absurd no
     go true true v n t = let no : ⊥ = omega arith in absurd no
     go false b v n t = let no : ⊥ = omega arith in absurd no
 
-pub earlier : (x y : Float) (a b : ℤ) → le x y ≡ true → Accepts (readOf (SinceJ2000 x)) a → Accepts (readOf (SinceJ2000 y)) b → a ≤ℤ b
-earlier x y a b h p q =
+pub earlier-seconds : (x y : Float) (a b : ℤ) → le x y ≡ true → Accepts (readOf (SinceJ2000 x)) a
+    → Accepts (readOf (SinceJ2000 y)) b → a ≤ℤ b
+earlier-seconds x y a b h p q =
     let f = accepted x a p in
     let g = accepted y b q in
-    rw (← f .1, ← g .1) (ticks-in-order x y (in-order x y (f .0) (g .0) h))
+    rw (← f .1, ← g .1) (ticks-in-order x y (doubles-in-order x y (f .0) (g .0) h))

@@ -14,7 +14,8 @@ use lib.Ieee.Bits.{ofBits-toBits}
 use lib.Ieee.Exact.{HasValue, odd-sign}
 use lib.Ieee.Scale.{finite}
 use Rattle.numbers.proofs.Order.{abs-*}
-use Rattle.dates.specs.Doubles.{signed, numerator, denominator}
+use Rattle.numbers.specs.Signs.{signed}
+use Rattle.dates.specs.Doubles.{numerator, denominator}
 use Rattle.dates.specs.Inner.{Apart}
 use Rattle.dates.proofs.Values.{signed-times, signed-size, value-of}
 
@@ -34,11 +35,13 @@ at-low : (s : Bool) (t : ℕ) → HasValue (ofFields binary64 s 0 t) s (t * 2 ^ 
 unfolding ofFields
 at-low s t = odd-sign 53 s t 0 1074
 
-at-high : (s : Bool) (j t : ℕ) → T (finite (ofFields binary64 s (suc j) t)) → HasValue (ofFields binary64 s (suc j) t) s ((2 ^ 52 + t) * 2 ^ j) (2 ^ 1074)
+at-high : (s : Bool) (j t : ℕ) → T (finite (ofFields binary64 s (suc j) t))
+    → HasValue (ofFields binary64 s (suc j) t) s ((2 ^ 52 + t) * 2 ^ j) (2 ^ 1074)
 unfolding ofFields
 at-high s j t p =
     let v = odd 53 s (2 ^ 52 + t) j 1074 in
-    subst (λ (k : Float). HasValue k s ((2 ^ 52 + t) * 2 ^ j) (2 ^ 1074)) (sym (past-top (eqb (suc j) 2047) (eqb t 0) s v p)) (odd-sign 53 s (2 ^ 52 + t) j 1074)
+    subst (λ (k : Float). HasValue k s ((2 ^ 52 + t) * 2 ^ j) (2 ^ 1074)) (sym (past-top (eqb (suc j) 2047) (eqb t 0) s v p))
+    (odd-sign 53 s (2 ^ 52 + t) j 1074)
 
 ofBits-is : (b : ℕ) → ofBits binary64 b ≡ ofFields binary64 (leb (2 ^ 63) b) (b % 2 ^ 63 / 2 ^ 52) (b % 2 ^ 52)
 unfolding ofBits
@@ -110,8 +113,8 @@ module _ (x : Float) (F : T (fits binary64 x)) (fine : T (finite x)) where
       twice (inf t) a c v i = v
       twice (fin t m e) a c v i = (v .0, double (m * up e) c a (down e) (2 ^ 1074) (v .1) i)
 
-  pub apart : Apart x (signed s digits) (fieldOf b)
-  apart = record {
+  pub taken-apart : Apart x (signed s digits) (fieldOf b)
+  taken-apart = record {
     value = given (fieldOf b) refl;
     under = rw (signed-size s digits) (under-it (fieldOf b) refl);
     least = rw (signed-size s digits) (le-add-left (2 ^ 52) (lowOf b));
@@ -121,9 +124,11 @@ module _ (x : Float) (F : T (fits binary64 x)) (fine : T (finite x)) where
       go : (l : ℕ) → l < 2 ^ 52 → l + 2 ^ 52 < 2 ^ 53
       go l h = omega arith
 
-      given : (f : ℕ) → fieldOf b ≡ f → (f ≡ 0) ⊎ (pos (2 ^ 1075) *ℤ numerator x ≡ pos (denominator x) *ℤ (pos (2 ^ f) *ℤ signed s digits))
+      given : (f : ℕ) → fieldOf b ≡ f
+          → (f ≡ 0) ⊎ (pos (2 ^ 1075) *ℤ numerator x ≡ pos (denominator x) *ℤ (pos (2 ^ f) *ℤ signed s digits))
       given zero e = inl refl
-      given (suc j) e = inr (value-of x s (2 ^ suc j * digits) (2 ^ 1075) (higher j e) ∙ ap (λ (z : ℤ). pos (denominator x) *ℤ z) (sym (signed-times s (2 ^ suc j) digits)))
+      given (suc j) e =
+          inr (value-of x s (2 ^ suc j * digits) (2 ^ 1075) (higher j e) ∙ ap (λ (z : ℤ). pos (denominator x) *ℤ z) (sym (signed-times s (2 ^ suc j) digits)))
 
       under-it : (f : ℕ) → fieldOf b ≡ f → 2 ^ 1075 * natAbs (numerator x) ≤ denominator x * (2 ^ f * digits)
       under-it zero e = lowest e

@@ -1,5 +1,6 @@
--- 01's known values of dates that are not marked P, and the edges of its rules, computed over the definitions. P12 and P13 stand in `promises`.
--- `fin negative m e` is the double ±m·2^e. Assumes nothing.
+-- 01's known values of dates that are not marked P, and the edges of its rules, computed over the
+-- definitions. P12 and P13 stand in `promises`. `fin negative m e` is the double ±m·2^e. Assumes
+-- nothing.
 use mathlib.Core.Path.{_≡_, refl}
 use mathlib.Core.Bool.{Bool, true, false}
 use lib.IntN.{pos, negsuc, negℤ}
@@ -9,10 +10,10 @@ use Rattle.numbers.specs.Rounding.{nearest, floorDiv}
 use Rattle.scales.specs.Tick.{isValid}
 use Rattle.dates.specs.declared.reading.Reading.the-variants.{TwoPart, SinceJ2000}
 use Rattle.dates.specs.Doubles.{numerator, denominator, beyond}
-use Rattle.dates.specs.Ticks.{nearestTick, tickOfDate, tickOfSeconds}
+use Rattle.dates.specs.Ticks.{ticksRounded, tickOfDate, tickOfSeconds}
 use Rattle.dates.specs.Readings.{inRange, readOf}
 use Rattle.dates.specs.Written.{sinceHalf, dayOf, firstPart, dateOf, writtenOf}
-use Rattle.dates.specs.Answers.{Accepts, Refuses, numberOf, placeOf, tickOf, writtenFirst, writtenNumber, writtenPlace}
+use Rattle.dates.specs.Answers.{Accepts, Refuses, readNumber, readPlace, readTick, writtenFirst, writtenNumber, writtenPlace}
 
 -- 2443144.5, 2443143.5, 5000000.0 and -2556855.5
 abbrev d2443144-5 : Float
@@ -35,10 +36,11 @@ pub record KnownDates : Type 0 where
   pub nanSecond : (first : Float) → finite first ≡ true → Refuses (readOf (TwoPart first nan)) 2 1
 
 pub known-dates : KnownDates
-unfolding readOf inRange isValid tickOfDate nearestTick nearest floorDiv numerator denominator beyond numberOf placeOf tickOf
+unfolding readOf inRange isValid tickOfDate ticksRounded nearest floorDiv numerator denominator beyond readNumber readPlace readTick
 known-dates = record { split = (refl, refl); nanFirst = λ second. (refl, refl); nanSecond = λ first h. rw h (refl, refl) }
 
--- ---- the edges of the rules. The double after 5000000.0 is 2^-30 more, the one after 10^10 is 2^-19 more
+-- ---- the edges of the rules. The double after 5000000.0 is 2^-30 more, the one after 10^10 is
+-- 2^-19 more
 abbrev past5000000 : Float
 past5000000 = fin false 5368709120000001 (negsuc 29)
 
@@ -50,7 +52,7 @@ pastTenToTheTen = fin false 5242880000000001 (negsuc 18)
 
 pub record Edges : Type 0 where
   -- 'beyond' is strict: 5,000,000 days pass, above, and the next double is 3, in either part
-  pub days : Refuses (readOf (TwoPart past5000000 minus2556855-5)) 3 0
+  pub daysFirst : Refuses (readOf (TwoPart past5000000 minus2556855-5)) 3 0
   pub daysSecond : Refuses (readOf (TwoPart minus2556855-5 past5000000)) 3 1
   -- 10^10 s pass 3, and 10^19 ticks do not fit 64 bits: 4. The next double is 3
   pub seconds : Refuses (readOf (SinceJ2000 tenToTheTen)) 4 0
@@ -61,27 +63,30 @@ pub record Edges : Type 0 where
   -- -0.0 is zero
   pub minusZero : Accepts (readOf (SinceJ2000 (fin true 0 (pos 0)))) (pos 725803167816000000)
   -- 2^-10 s are 976562.5 ticks: 'halves to the greater', before J2000 too
-  pub half : Accepts (readOf (SinceJ2000 (fin false 1 (negsuc 9)))) (pos 725803167816976563)
+  pub halfAfter : Accepts (readOf (SinceJ2000 (fin false 1 (negsuc 9)))) (pos 725803167816976563)
   pub halfBefore : Accepts (readOf (SinceJ2000 (fin true 1 (negsuc 9)))) (pos 725803167815023438)
   -- the smallest double is nothing
   pub smallest : Accepts (readOf (SinceJ2000 (fin true 1 (negsuc 1073)))) (pos 725803167816000000)
-  -- the midnight before the origin is a date's first part, and a tick earlier the midnight before: the day is rounded down
+  -- the midnight before the origin is a date's first part, and a tick earlier the midnight before:
+  -- the day is rounded down
   pub midnight : writtenFirst (writtenOf (negℤ (pos 32184000000))) ≡ d2443144-5
   pub midnightBefore : writtenFirst (writtenOf (negℤ (pos 32184000001))) ≡ d2443143-5
   -- a tick outside the range is not written
-  pub outside : (writtenNumber (writtenOf (pos 6000000000000000001)) ≡ 4) × (writtenPlace (writtenOf (pos 6000000000000000001)) ≡ 0)
+  pub outside : (writtenNumber (writtenOf (pos 6000000000000000001)) ≡ 4)
+      × (writtenPlace (writtenOf (pos 6000000000000000001)) ≡ 0)
 
 pub edges : Edges
-unfolding readOf inRange isValid tickOfDate tickOfSeconds nearestTick nearest floorDiv numerator denominator beyond numberOf placeOf tickOf writtenOf dateOf firstPart dayOf sinceHalf ofInt div writtenFirst writtenNumber writtenPlace
+unfolding readOf inRange isValid tickOfDate tickOfSeconds ticksRounded nearest floorDiv numerator denominator beyond readNumber readPlace readTick
+    writtenOf dateOf firstPart dayOf sinceHalf ofInt div writtenFirst writtenNumber writtenPlace
 edges = record {
-  days = (refl, refl);
+  daysFirst = (refl, refl);
   daysSecond = (refl, refl);
   seconds = (refl, refl);
   secondsPast = (refl, refl);
   nanPast = (refl, refl);
   infinite = λ negative. (refl, refl);
   minusZero = (refl, refl);
-  half = (refl, refl);
+  halfAfter = (refl, refl);
   halfBefore = (refl, refl);
   smallest = (refl, refl);
   midnight = refl;

@@ -1,10 +1,13 @@
 -- Why the dates are right. What the crate promises, for others to cite:
---   `ReadBack`: every valid tick is written, and read back as the same tick (read-back); the first part is exact (first-exact), the last day not after
---   the tick (last-day); the second lies in [0, 1) (second-in-day).
---   `Earlier`: of two readings of seconds the earlier is never the later tick (earlier); the same over exact values (ticks-in-order).
---   `Known`: 01's known values of dates that are not marked P (known-dates), and the edges of its rules (edges).
--- The rest serves the functions' proofs: what comparisons and bits of a double say (`Comparisons`, `Fields`), its value in ticks (`Values`), the shifts and
--- pieces of a product and the spans of the code (`Pieces`, `Spans`), the day of a tick (`Days`) and one rounded division (`Division`).
+-- `ReadBack`: every valid tick is written, and read back as the same tick (read-back); the first
+-- part is exact (first-exact), the last day not after the tick (last-day); the second lies in
+-- [0, 1) (second-in-day).
+-- `Earlier`: of two readings of seconds the earlier is never the later tick (earlier-seconds).
+-- `Known`: 01's known values of dates that are not marked P (known-dates), and the edges of its
+-- rules (edges).
+-- The rest serves the functions' proofs: what comparisons and bits of a double say (`Comparisons`,
+-- `Fields`), its value in ticks (`Values`), the shifts and pieces of a product and the spans of the
+-- code (`Pieces`, `Spans`), the day of a tick (`Days`) and one rounded division (`Division`).
 pub mod Comparisons
 pub mod Pieces
 pub mod Values

@@ -1,8 +1,10 @@
--- What shifts of the code do to numbers, and a product in two pieces, of which the sum is rounded: every number on the way fits 64 bits. Nothing here is about
--- doubles. `read` is what the machine makes of a number. Assumes nothing.
+-- What shifts of the code do to numbers, and a product in two pieces, of which the sum is rounded:
+-- every number on the way fits 64 bits. Nothing here is about doubles. `read` is what the machine
+-- makes of a number. Assumes nothing.
 use mathlib.Core.Path.{_≡_, refl, sym, ap, _∙_}
 use Prim.Native.Nat.{ℕ, suc, _+_, _-_, _*_, _/_, _%_, _^_, _≤_, _<_}
-use native.Mathlib.Nat.{add-zero, one-mul, div-add-mod', mod-lt, mod-eq-of-lt, mul-comm, mul-div-cancel, mul-le-mul-right, mul-lt-mul-of-pos-right, mul-mod-left}
+use native.Mathlib.Nat.{add-zero, one-mul, div-add-mod', mod-lt, mod-eq-of-lt, mul-comm, mul-div-cancel}
+use native.Mathlib.Nat.{mul-le-mul-right, mul-lt-mul-of-pos-right, mul-mod-left}
 use native.Mathlib.Omega.{arith}
 use lib.Arith.{mod-mul}
 use lib.Bits.{bitAnd, and-mask}
@@ -20,7 +22,8 @@ use Rattle.numbers.proofs.Machine.{fits-range, fits-size, fits-small, fits-unde
 use Rattle.numbers.proofs.Rounding.{floored, floor-plus, floor-rest, floor-small, floor-split, nearest-cut}
 use Rattle.dates.specs.Inner.{Cut}
 
--- ---- z << (63 − k), less the sign's digit, has the last k digits of z: what its whole multiples of 2^k leave
+-- ---- z << (63 − k), less the sign's digit, has the last k digits of z: what its whole multiples
+-- of 2^k leave
 module _ (k : ℕ) (few : k ≤ 63) where
   abbrev P : ℕ
   P = 2 ^ k
@@ -75,7 +78,8 @@ module _ (k : ℕ) (few : k ≤ 63) where
           → pos (18446744073709551616 - suc n) ≡ z +ℤ pos p *ℤ pos (2 * c)
       go n p c h e = rep _ (λ a b. simp lin (omega arith))
 
-  pub last-digits : (z : ℤ) → SFits w64 z → toZ w64 (bitAnd (ofZ w64 z * C % 18446744073709551616) 9223372036854775807) ≡ pos C *ℤ left z
+  pub last-digits : (z : ℤ) → SFits w64 z
+      → toZ w64 (bitAnd (ofZ w64 z * C % 18446744073709551616) 9223372036854775807) ≡ pos C *ℤ left z
   last-digits z f =
       rw (kept (ofZ w64 z)) (toZ-pos w64 (ofZ w64 z % P * C) (kept-few (ofZ w64 z)))
       ∙ ap pos (mul-comm (ofZ w64 z % P) C)
@@ -88,7 +92,8 @@ one-shl k h =
     let g : 2 ^ k < 18446744073709551616 = omega arith in
     ap (λ (z : ℕ). toZ w64 (z % 18446744073709551616)) (one-mul (2 ^ k)) ∙ ap (toZ w64) (mod-eq-of-lt g) ∙ toZ-pos w64 (2 ^ k) (omega arith)
 
--- ---- the numbers themselves: b is split at 2^32, and the product cut there; half is added, and the sum cut at 2^by
+-- ---- the numbers themselves: b is split at 2^32, and the product cut there; half is added, and
+-- the sum cut at 2^by
 abbrev high : ℤ → ℤ
 high b = floorDiv b 4294967296
 
@@ -132,7 +137,7 @@ productOf odd b = read (coarseOf odd b) +ℤ read (shrZ (read (restOf odd b)) 42
 abbrev raisedOf : ℕ → ℤ → ℕ → ℤ
 raisedOf odd b by = read (productOf odd b) +ℤ toZ w64 (1 * half by % 18446744073709551616)
 
-pub record Safe (odd : ℕ) (b : ℤ) (by : ℕ) : Type 0 where
+pub record PartSafe (odd : ℕ) (b : ℤ) (by : ℕ) : Type 0 where
   pub taken : SFits w64 (takenOf b)
   pub low : SFits w64 (lowOf b)
   pub coarse : SFits w64 (coarseOf odd b)
@@ -216,7 +221,9 @@ module _ (odd : ℕ) (b : ℤ) (by : ℕ) (f : SFits w64 b) (c : Cut odd by) whe
   rest-is = rw (low-is, odd-is, read-is (low b) low-kept)
 
   fine-is : read (shrZ (read (restOf odd b)) 4294967296) ≡ fine odd b
-  fine-is = rw (rest-is, read-is (pos odd *ℤ low b) rest-kept, shr-floor (pos odd *ℤ low b) 4294967296) (read-is (fine odd b) (fits-small (fine odd b) 2147483648 fine-small (lit< tt)))
+  fine-is =
+      rw (rest-is, read-is (pos odd *ℤ low b) rest-kept, shr-floor (pos odd *ℤ low b) 4294967296)
+      (read-is (fine odd b) (fits-small (fine odd b) 2147483648 fine-small (lit< tt)))
 
   product-kept : SFits w64 (product odd b)
   product-kept = fits-small (product odd b) 4611686018427387904 product-small (lit< tt)
@@ -247,13 +254,15 @@ module _ (odd : ℕ) (b : ℤ) (by : ℕ) (f : SFits w64 b) (c : Cut odd by) whe
       ∙ sym (nearest-cut (pos odd *ℤ b) 4294967296 (half by) (lit< tt) (pow-pos (by - 1)))
       ∙ ap (nearest (pos odd *ℤ b)) (sym (pow-add 2 32 by ∙ ap (λ (z : ℕ). 4294967296 * z) power-is)))
 
-  pub safe : Safe odd b by
-  safe = record {
+  pub part-safe : PartSafe odd b by
+  part-safe = record {
     taken = rw taken-is taken-kept;
     low = rw low-is low-kept;
     coarse = rw coarse-is coarse-kept;
     rest = rw rest-is rest-kept;
     product = rw product-is product-kept;
     raised = rw raised-is raised-kept;
-    is = rw (raised-is, read-is (raised odd b by) raised-kept, shr-floor (raised odd b by) (2 ^ by)) (read-is _ (fits-small _ 6917529027641081856 cut-small (lit< tt)) ∙ rounded);
+    is =
+        rw (raised-is, read-is (raised odd b by) raised-kept, shr-floor (raised odd b by) (2 ^ by))
+        (read-is _ (fits-small _ 6917529027641081856 cut-small (lit< tt)) ∙ rounded);
   }

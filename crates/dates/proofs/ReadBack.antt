@@ -1,9 +1,10 @@
--- 'Reading it back gives the same tick': of every valid tick's date. And the two parts are what the page says: the first exact, the second in [0, 1).
--- Assumes nothing.
+-- 'Reading it back gives the same tick': of every valid tick's date. And the two parts are what the
+-- page says: the first exact, the second in [0, 1). Assumes nothing.
 use mathlib.Core.Path.{_≡_, refl, sym, ap, _∙_, subst}
 use mathlib.Core.Bool.{Bool, true, false, true≢false}
 use Prim.Native.Nat.{ℕ, _+_, _*_, _/_, _%_, _^_, _≤_, _<_, zero-le}
-use native.Mathlib.Nat.{mul-comm, mod-lt, le-of-lt, le-trans, le-of-eq, mul-right-comm, mul-le-mul-right, mul-lt-mul-of-pos-right, le-of-mul-le-mul-right, lt-of-mul-lt-mul-right}
+use native.Mathlib.Nat.{mul-comm, mod-lt, le-of-lt, le-trans, le-of-eq, mul-right-comm, mul-le-mul-right}
+use native.Mathlib.Nat.{mul-lt-mul-of-pos-right, le-of-mul-le-mul-right, lt-of-mul-lt-mul-right}
 use native.Mathlib.Omega.{arith}
 use lib.Arith.{le→nltb}
 use lib.Dec.{ltb, lit≤, lit<}
@@ -23,14 +24,14 @@ use Rattle.scales.proofs.Range.{valid-size}
 use Rattle.dates.specs.declared.reading.Read.the-variants as R
 use Rattle.dates.specs.declared.reading.Reading.the-variants.{TwoPart}
 use Rattle.dates.specs.Doubles.{numerator, denominator, beyond}
-use Rattle.dates.specs.Ticks.{dayTicks, origin, nearestTick, tickOfDate}
+use Rattle.dates.specs.Ticks.{dayTicks, origin, ticksRounded, tickOfDate}
 use Rattle.dates.specs.Readings.{inRange, readOf, readOfDate, mostDays}
 use Rattle.dates.specs.Written.{sinceHalf, dayOf, sinceDay, firstPart, secondPart, dateOf, writtenOf}
-use Rattle.dates.specs.Answers.{Accepts, numberOf, tickOf, writtenNumber, writtenFirst, writtenSecond}
+use Rattle.dates.specs.Answers.{Accepts, readNumber, readTick, writtenNumber, writtenFirst, writtenSecond}
 use Rattle.dates.specs.Inner.{Since}
-use Rattle.dates.proofs.Days.{counted, days-few, first-is, second-is}
+use Rattle.dates.proofs.Days.{days-counted, days-few, first-half-is, ticks-of-day-is}
 use Rattle.dates.proofs.Division.{part-under, part-value, part-ticks, half-value}
-use Rattle.dates.proofs.Values.{sized, ticks-of, value-of}
+use Rattle.dates.proofs.Values.{nearest-sized, ticks-of, value-of}
 
 -- ---- what a value says
 finite-of : (x : Float) (s : Bool) (a c : ℕ) → HasValue x s a c → finite x ≡ true
@@ -47,21 +48,29 @@ not-beyond (fin t m e) s a c most C v h =
     (le-of-mul-le-mul-right (le-trans (le-of-eq (v .1)) (le-trans (mul-le-mul-right (down e) h) (le-of-eq (mul-right-comm most c (down e))))) C))
 
 -- below one
-below-one : (x : Float) (a c : ℕ) → 0 < c → HasValue x false a c → a < c → (pos 0 ≤ℤ numerator x) × (numerator x <ℤ pos (denominator x))
+below-one : (x : Float) (a c : ℕ) → 0 < c → HasValue x false a c → a < c
+    → (pos 0 ≤ℤ numerator x) × (numerator x <ℤ pos (denominator x))
 unfolding numerator denominator
 below-one nan a c C v h = absurd v
 below-one (inf t) a c C v h = absurd v
 below-one (fin true m e) a c C v h = absurd (true≢false (v .0))
 below-one (fin false m e) a c C v h = (
   le-pos 0 (m * up e) zero-le,
-  lt-pos (m * up e) (down e) (lt-of-mul-lt-mul-right c (subst (λ (z : ℕ). z < down e * c) (sym (v .1)) (subst (λ (z : ℕ). a * down e < z) (mul-comm c (down e)) (mul-lt-mul-of-pos-right h (down-pos e))))),
+  lt-pos (m * up e) (down e)
+      (lt-of-mul-lt-mul-right c
+      (subst (λ (z : ℕ). z < down e * c) (sym (v .1))
+      (subst (λ (z : ℕ). a * down e < z) (mul-comm c (down e)) (mul-lt-mul-of-pos-right h (down-pos e))))),
 )
 
 -- ---- a valid tick's two parts
 abbrev halves : ℤ → ℤ
 halves tick = pos 2 *ℤ dayOf tick +ℤ pos 1
 
-day-sum : (t d : ℤ) → pos 43200000000000 *ℤ (pos 2 *ℤ d +ℤ pos 1) +ℤ (t +ℤ pos origin -ℤ pos 43200000000000 -ℤ pos 86400000000000 *ℤ d) -ℤ pos origin ≡ t
+day-sum : (t d : ℤ)
+    → pos 43200000000000 *ℤ (pos 2 *ℤ d +ℤ pos 1)
+    +ℤ (t +ℤ pos origin -ℤ pos 43200000000000 -ℤ pos 86400000000000 *ℤ d)
+    -ℤ pos origin
+    ≡ t
 day-sum = rep₂ _ (λ a b c d. simp lin (omega arith))
 
 module _ (tick : ℤ) (v : isValid tick ≡ true) where
@@ -70,14 +79,14 @@ module _ (tick : ℤ) (v : isValid tick ≡ true) where
 
   is-since : Since tick since
   unfolding since
-  is-since = counted tick (valid-size tick v)
+  is-since = days-counted tick (valid-size tick v)
 
   n : ℕ
   n = 2 * (since / dayTicks) + 4746289
 
   n-is : pos n ≡ halves tick
   unfolding n
-  n-is = sym (first-is tick since is-since)
+  n-is = sym (first-half-is tick since is-since)
 
   n-small : n ≤ 5026289
   unfolding n
@@ -87,13 +96,15 @@ module _ (tick : ℤ) (v : isValid tick ≡ true) where
   unfolding firstPart
   first-value = rw (sym n-is) (half-value n (omega (arith, n-small)))
 
-  first-ticks : nearestTick dayTicks (firstPart tick) ≡ pos 43200000000000 *ℤ halves tick
+  first-ticks : ticksRounded dayTicks (firstPart tick) ≡ pos 43200000000000 *ℤ halves tick
   first-ticks =
       ticks-of (firstPart tick) n 2 dayTicks (lit< tt) first-value
-      ∙ sized (n * dayTicks) 2 (43200000000000 * n) (lit< tt) (go n)
+      ∙ nearest-sized (n * dayTicks) 2 (43200000000000 * n) (lit< tt) (go n)
       ∙ ap (λ (z : ℤ). pos 43200000000000 *ℤ z) n-is
     where
-      go : (n : ℕ) → (2 * (2 * (43200000000000 * n)) ≤ 2 * (n * 86400000000000) + 2) × (2 * (n * 86400000000000) + 2 < 2 * (2 * (43200000000000 * n)) + 2 * 2)
+      go : (n : ℕ)
+          → (2 * (2 * (43200000000000 * n)) ≤ 2 * (n * 86400000000000) + 2)
+          × (2 * (n * 86400000000000) + 2 < 2 * (2 * (43200000000000 * n)) + 2 * 2)
       go n = omega arith
 
   r : ℕ
@@ -101,7 +112,7 @@ module _ (tick : ℤ) (v : isValid tick ≡ true) where
 
   r-is : pos r ≡ sinceDay tick
   unfolding r
-  r-is = sym (second-is tick since is-since)
+  r-is = sym (ticks-of-day-is tick since is-since)
 
   r-small : r < dayTicks
   unfolding r
@@ -111,7 +122,7 @@ module _ (tick : ℤ) (v : isValid tick ≡ true) where
   unfolding secondPart
   second-value = rw (sym r-is) (part-value r r-small)
 
-  second-ticks : nearestTick dayTicks (secondPart tick) ≡ sinceDay tick
+  second-ticks : ticksRounded dayTicks (secondPart tick) ≡ sinceDay tick
   unfolding secondPart
   second-ticks = rw (sym r-is) (part-ticks r r-small)
 
@@ -129,7 +140,9 @@ module _ (tick : ℤ) (v : isValid tick ≡ true) where
   first-within = not-beyond (firstPart tick) false n 2 mostDays (lit< tt) first-value (omega (arith, n-small))
 
   second-within : beyond mostDays (secondPart tick) ≡ false
-  second-within = not-beyond (secondPart tick) false (grid binary64 r dayTicks) (2 ^ 1074) mostDays (pow-pos 1074) second-value (le-trans (le-of-lt (part-under r r-small)) (lit≤ tt))
+  second-within =
+      not-beyond (secondPart tick) false (grid binary64 r dayTicks) (2 ^ 1074) mostDays (pow-pos 1074) second-value
+      (le-trans (le-of-lt (part-under r r-small)) (lit≤ tt))
 
   back : readOfDate (dateOf tick) ≡ R.Tick tick
   unfolding readOf inRange dateOf
@@ -138,20 +151,28 @@ module _ (tick : ℤ) (v : isValid tick ≡ true) where
   -- 'the first part is .. exact': its value is the day's n + 1/2
   pub first-exact : (finite (firstPart tick) ≡ true)
       × (pos 2 *ℤ numerator (firstPart tick) ≡ (pos 2 *ℤ dayOf tick +ℤ pos 1) *ℤ pos (denominator (firstPart tick)))
-  first-exact = (first-finite, value-of (firstPart tick) false n 2 first-value ∙ *ℤ-comm (pos (denominator (firstPart tick))) (pos n) ∙ ap (λ (z : ℤ). z *ℤ pos (denominator (firstPart tick))) n-is)
+  first-exact = (
+    first-finite,
+    value-of (firstPart tick) false n 2 first-value
+        ∙ *ℤ-comm (pos (denominator (firstPart tick))) (pos n)
+        ∙ ap (λ (z : ℤ). z *ℤ pos (denominator (firstPart tick))) n-is,
+  )
 
   -- the second part lies in [0, 1)
   pub second-in-day : (finite (secondPart tick) ≡ true)
       × ((pos 0 ≤ℤ numerator (secondPart tick)) × (numerator (secondPart tick) <ℤ pos (denominator (secondPart tick))))
   second-in-day = (second-finite, below-one (secondPart tick) (grid binary64 r dayTicks) (2 ^ 1074) (pow-pos 1074) second-value (part-under r r-small))
 
--- 'the last Julian date ending in .5 not after it': the day is at or before the tick, and the next one after it
+-- 'the last Julian date ending in .5 not after it': the day is at or before the tick, and the next
+-- one after it
 pub last-day : (tick : ℤ) → Floored (sinceHalf tick) dayTicks (dayOf tick)
 unfolding dayOf
 last-day tick = floored (sinceHalf tick) dayTicks (lit< tt)
 
--- ---- 'Reading it back gives the same tick': every valid tick is written, and its date is read as that tick
+-- ---- 'Reading it back gives the same tick': every valid tick is written, and its date is read as
+-- that tick
 pub read-back : (tick : ℤ) → isValid tick ≡ true
-    → (writtenNumber (writtenOf tick) ≡ 0) × Accepts (readOf (TwoPart (writtenFirst (writtenOf tick)) (writtenSecond (writtenOf tick)))) tick
-unfolding writtenOf writtenNumber writtenFirst writtenSecond dateOf numberOf tickOf
+    → (writtenNumber (writtenOf tick) ≡ 0)
+    × Accepts (readOf (TwoPart (writtenFirst (writtenOf tick)) (writtenSecond (writtenOf tick)))) tick
+unfolding writtenOf writtenNumber writtenFirst writtenSecond dateOf readNumber readTick
 read-back tick v = rw v (refl, rw (back tick v) (refl, refl))

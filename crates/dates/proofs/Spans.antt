@@ -1,4 +1,5 @@
--- What a span is worth: a rounded part's, a sum's, and whether that is in the range. Assumes nothing.
+-- What a span is worth: a rounded part's, a sum's, and whether that is in the range. Assumes
+-- nothing.
 use mathlib.Core.Path.{_≡_, refl, sym, ap, _∙_}
 use mathlib.Core.Bool.{Bool, true, false, not}
 use Prim.Native.Nat.{ℕ, zero, suc, _+_, _*_, _≤_, _<_}
@@ -13,11 +14,12 @@ use Rattle.scales.specs.Tick.{furthest, isValid}
 use Rattle.scales.proofs.Range.{valid-size}
 use Rattle.dates.specs.declared.reading.Read.the-variants as R
 use Rattle.dates.specs.declared.span.Span.{Span}
-use Rattle.dates.specs.Ticks.{dayTicks, j2000, nearestTick, origin, secondTicks, tickOfDate, tickOfSeconds}
-use Rattle.dates.specs.Readings.{inRange, refusedWith, refusing}
-use Rattle.dates.specs.Inner.{Reach, Rounded, Spanned, Within, modest, worth}
+use Rattle.dates.specs.Ticks.{dayTicks, j2000, ticksRounded, origin, secondTicks, tickOfDate, tickOfSeconds}
+use Rattle.dates.specs.Readings.{inRange, refusedWith, refusedIf}
+use Rattle.dates.specs.Inner.{Reach, Rounded, Spanned, SpanWithin, modest, worth}
 
--- ---- the range: with p·m ticks in 100,000 days, beyond m units of p ticks either way a span is outside, and up to there it fits 64 bits
+-- ---- the range: with p·m ticks in 100,000 days, beyond m units of p ticks either way a span is
+-- outside, and up to there it fits 64 bits
 module _ (p m : ℕ) (w : p * m ≡ 8640000000000000000) where
   far-above : (u t : ℤ) → pos m <ℤ u → natAbs t ≤ 10000000000000000 → furthest < natAbs (pos p *ℤ u +ℤ t)
   far-above = rep₂ _ (λ a b c d. simp sizes (λ h k. omega (arith, mul-le-mul-left p h)))
@@ -32,20 +34,24 @@ outside : (z : ℤ) → furthest < natAbs z → inRange z ≡ refusedWith 4 0
 unfolding inRange
 outside z h = go (isValid z) (valid-size z)
   where
-    go : (b : Bool) → (b ≡ true → natAbs z ≤ furthest) → refusing (not b) 4 0 (R.Tick z) ≡ refusedWith 4 0
+    go : (b : Bool) → (b ≡ true → natAbs z ≤ furthest) → refusedIf (not b) 4 0 (R.Tick z) ≡ refusedWith 4 0
     go true f = let l = f refl in let no : ⊥ = omega arith in absurd no
     go false f = refl
 
 module _ (per most : ℤ) (reach : Reach per most) where
-  pub too-late : (span : Span) → Within modest span → most <ℤ span .units → inRange (worth per span) ≡ refusedWith 4 0
+  pub too-late : (span : Span) → SpanWithin modest span → most <ℤ span .units
+      → inRange (worth per span) ≡ refusedWith 4 0
   too-late span m h =
       rw (reach .perIs)
-      (outside (worth (pos (natAbs per)) span) (far-above (natAbs per) (natAbs most) (reach .days) (span .units) (span .ticks) (rw (reach .mostIs) at h) (m .ticks)))
+      (outside (worth (pos (natAbs per)) span)
+      (far-above (natAbs per) (natAbs most) (reach .days) (span .units) (span .ticks) (rw (reach .mostIs) at h) (m .ticks)))
 
-  pub too-early : (span : Span) → Within modest span → span .units <ℤ negℤ most → inRange (worth per span) ≡ refusedWith 4 0
+  pub too-early : (span : Span) → SpanWithin modest span → span .units <ℤ negℤ most
+      → inRange (worth per span) ≡ refusedWith 4 0
   too-early span m h =
       rw (reach .perIs)
-      (outside (worth (pos (natAbs per)) span) (far-below (natAbs per) (natAbs most) (reach .days) (span .units) (span .ticks) (rw (reach .mostIs) at h) (m .ticks)))
+      (outside (worth (pos (natAbs per)) span)
+      (far-below (natAbs per) (natAbs most) (reach .days) (span .units) (span .ticks) (rw (reach .mostIs) at h) (m .ticks)))
 
   pub most-size : natAbs most ≤ 8640000000000000000
   most-size = go (natAbs per) (natAbs most) (reach .days)
@@ -59,16 +65,17 @@ module _ (per most : ℤ) (reach : Reach per most) where
 
 -- ---- sums
 -- the size of a sum, by the sizes of the two: n units and ticks at most, and m
-pub sum-sized : (n m : ℕ) (a b sum : Span) → Within n a → Within m b → Spanned sum (a .units +ℤ b .units) (a .ticks +ℤ b .ticks) → Within (n + m) sum
+pub sum-sized : (n m : ℕ) (a b sum : Span) → SpanWithin n a → SpanWithin m b
+    → Spanned sum (a .units +ℤ b .units) (a .ticks +ℤ b .ticks) → SpanWithin (n + m) sum
 sum-sized n m a b sum p q e = record {
   units = rw (e .unitsAre) (size-+ (a .units) (b .units) (p .units) (q .units));
   ticks = rw (e .ticksAre) (size-+ (a .ticks) (b .ticks) (p .ticks) (q .ticks));
 }
 
-pub looser : (n m : ℕ) (span : Span) → n ≤ m → Within n span → Within m span
+pub looser : (n m : ℕ) (span : Span) → n ≤ m → SpanWithin n span → SpanWithin m span
 looser n m span h w = record { units = le-trans (w .units) h; ticks = le-trans (w .ticks) h }
 
-pub worth-plus : (per : ℕ) (a b sum : Span) → Spanned sum (a .units +ℤ b .units) (a .ticks +ℤ b .ticks)
+worth-plus : (per : ℕ) (a b sum : Span) → Spanned sum (a .units +ℤ b .units) (a .ticks +ℤ b .ticks)
     → worth (pos per) sum ≡ worth (pos per) a +ℤ worth (pos per) b
 worth-plus per a b sum e = rw (e .unitsAre, e .ticksAre) (go (a .units) (a .ticks) (b .units) (b .ticks))
   where
@@ -83,14 +90,17 @@ abbrev pub originSpan : Span
 originSpan = record { units = negsuc 2443143; ticks = negsuc 43232183999999 }
 
 -- ---- the two kinds of doubles, from the leaves' spans to their ticks
-pub seconds-worth : (x : Float) (a sum : Span) → Rounded secondTicks x a → Spanned sum (a .units +ℤ j2000Span .units) (a .ticks +ℤ j2000Span .ticks)
+pub seconds-worth : (x : Float) (a sum : Span) → Rounded secondTicks x a
+    → Spanned sum (a .units +ℤ j2000Span .units) (a .ticks +ℤ j2000Span .ticks)
     → worth (pos secondTicks) sum ≡ tickOfSeconds x
 unfolding tickOfSeconds
 seconds-worth x a sum r e = worth-plus secondTicks a j2000Span sum e ∙ ap (λ (z : ℤ). z +ℤ j2000) (sym (r .is))
 
-pub date-worth : (x y : Float) (a b both sum : Span) → Rounded dayTicks x a → Rounded dayTicks y b → Spanned both (a .units +ℤ b .units) (a .ticks +ℤ b .ticks)
-    → Spanned sum (both .units +ℤ originSpan .units) (both .ticks +ℤ originSpan .ticks) → worth (pos dayTicks) sum ≡ tickOfDate x y
+pub date-worth : (x y : Float) (a b both sum : Span) → Rounded dayTicks x a → Rounded dayTicks y b
+    → Spanned both (a .units +ℤ b .units) (a .ticks +ℤ b .ticks)
+    → Spanned sum (both .units +ℤ originSpan .units) (both .ticks +ℤ originSpan .ticks)
+    → worth (pos dayTicks) sum ≡ tickOfDate x y
 unfolding tickOfDate
 date-worth x y a b both sum p q e f =
-    let two : worth (pos dayTicks) both ≡ nearestTick dayTicks x +ℤ nearestTick dayTicks y = worth-plus dayTicks a b both e ∙ rw (p .is, q .is) in
+    let two : worth (pos dayTicks) both ≡ ticksRounded dayTicks x +ℤ ticksRounded dayTicks y = worth-plus dayTicks a b both e ∙ rw (p .is, q .is) in
     worth-plus dayTicks both originSpan sum f ∙ ap (λ (z : ℤ). z +ℤ negℤ (pos origin)) two

@@ -1,14 +1,11 @@
--- 'Each double stands for its exact value.' It is the fraction numerator / denominator. A NaN and an infinity stand for none: 0 is put there, and
--- refusal 2 comes first.
-use mathlib.Core.Bool.{Bool, true, false, cond}
+-- 'Each double stands for its exact value.' It is the fraction numerator / denominator. A NaN and
+-- an infinity stand for none: 0 is put there, and refusal 2 comes first.
+use mathlib.Core.Bool.{Bool, true, false}
 use Prim.Native.Nat.{ℕ, _*_}
-use lib.IntN.{ℤ, pos, negℤ}
+use lib.IntN.{ℤ, pos}
 use lib.Dec.{ltb}
 use lib.Ieee.{Float, nan, inf, fin, up, down}
-
--- n, or −n where `negative` is true
-abbrev pub signed : Bool → ℕ → ℤ
-signed negative n = cond negative (negℤ (pos n)) (pos n)
+use Rattle.numbers.specs.Signs.{signed}
 
 -- `fin negative m e` is ±m·2^e, and 2^e is up e / down e
 unfoldable pub numerator : Float → ℤ

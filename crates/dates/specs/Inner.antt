@@ -9,11 +9,13 @@ use lib.Ieee.{Float}
 use lib.Ieee.Scale.{finite}
 use Rattle.dates.specs.declared.span.Span.{Span}
 use Rattle.dates.specs.Doubles.{beyond, denominator, numerator}
-use Rattle.dates.specs.Ticks.{dayTicks, nearestTick}
+use Rattle.dates.specs.Ticks.{dayTicks, ticksRounded}
 
--- ---- a double taken apart: digits·2^exponent units of 2^-1075, or less where the exponent is 0; the leading digit is in place
+-- ---- a double taken apart: digits·2^exponent units of 2^-1075, or less where the exponent is 0;
+-- the leading digit is in place
 pub record Apart (x : Float) (digits : ℤ) (exponent : ℕ) : Type 0 where
-  pub value : (exponent ≡ 0) ⊎ (pos (2 ^ 1075) *ℤ numerator x ≡ pos (denominator x) *ℤ (pos (2 ^ exponent) *ℤ digits))
+  pub value : (exponent ≡ 0)
+      ⊎ (pos (2 ^ 1075) *ℤ numerator x ≡ pos (denominator x) *ℤ (pos (2 ^ exponent) *ℤ digits))
   pub under : 2 ^ 1075 * natAbs (numerator x) ≤ denominator x * (2 ^ exponent * natAbs digits)
   pub least : 2 ^ 52 ≤ natAbs digits
   pub small : natAbs digits < 2 ^ 53
@@ -22,7 +24,7 @@ pub record Apart (x : Float) (digits : ℤ) (exponent : ℕ) : Type 0 where
 abbrev pub passing : ℕ → Float → Bool
 passing most x = finite x && not (beyond most x)
 
-pub record Passed (most : ℕ) (x : Float) : Type 0 where
+pub record Readable (most : ℕ) (x : Float) : Type 0 where
   pub finitely : T (finite x)
   pub within : T (not (beyond most x))
 
@@ -43,11 +45,12 @@ abbrev pub worth : ℤ → Span → ℤ
 worth per span = per *ℤ span .units +ℤ span .ticks
 
 -- at most so many units and ticks, either way
-pub record Within (most : ℕ) (span : Span) : Type 0 where
+pub record SpanWithin (most : ℕ) (span : Span) : Type 0 where
   pub units : natAbs (span .units) ≤ most
   pub ticks : natAbs (span .ticks) ≤ most
 
--- so small that a sum of two fits 64 bits, and that beyond 100,000 days the ticks do not lead back into the range
+-- so small that a sum of two fits 64 bits, and that beyond 100,000 days the ticks do not lead back
+-- into the range
 abbrev pub modest : ℕ
 modest = 10000000000000000
 
@@ -58,8 +61,8 @@ pub record Spanned (span : Span) (units ticks : ℤ) : Type 0 where
 
 -- a date part, or seconds, to the nearest tick
 pub record Rounded (per : ℕ) (x : Float) (span : Span) : Type 0 where
-  pub is : nearestTick per x ≡ worth (pos per) span
-  pub small : Within 1000000000000000 span
+  pub is : ticksRounded per x ≡ worth (pos per) span
+  pub small : SpanWithin 1000000000000000 span
 
 -- `most` units of `per` ticks are 100,000 days
 pub record Reach (per most : ℤ) : Type 0 where
@@ -67,7 +70,8 @@ pub record Reach (per most : ℤ) : Type 0 where
   pub mostIs : most ≡ pos (natAbs most)
   pub days : natAbs per * natAbs most ≡ 100000 * dayTicks
 
--- ---- a tick counted from 70,000 days before JD 2443144.5, which is 32,184,000,000 ticks before the origin
+-- ---- a tick counted from 70,000 days before JD 2443144.5, which is 32,184,000,000 ticks before
+-- the origin
 pub record Since (tick : ℤ) (since : ℕ) : Type 0 where
   pub is : pos since ≡ tick +ℤ pos (70000 * dayTicks + 32184000000)
   pub few : since ≤ 12048000032184000000

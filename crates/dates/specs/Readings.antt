@@ -1,4 +1,5 @@
--- 'A reading is a two-part Julian date in days, two doubles; or seconds past J2000, one double; or ticks.'
+-- 'A reading is a two-part Julian date in days, two doubles; or seconds past J2000, one double; or
+-- ticks.'
 use mathlib.Core.Bool.{Bool, cond, not}
 use Prim.Native.Nat.{ℕ}
 use lib.IntN.{ℤ}
@@ -24,24 +25,24 @@ abbrev pub refusedWith : ℕ → ℕ → Read
 refusedWith number place = R.Refused (record { number = number; place = place })
 
 -- that refusal where the test holds, else what comes after it in the order
-abbrev pub refusing : Bool → ℕ → ℕ → Read → Read
-refusing test number place otherwise = cond test (refusedWith number place) otherwise
+abbrev pub refusedIf : Bool → ℕ → ℕ → Read → Read
+refusedIf test number place otherwise = cond test (refusedWith number place) otherwise
 
 -- '4: epoch outside the range at start', 'steps done': none
 unfoldable pub inRange : ℤ → Read
-inRange tick = refusing (not (isValid tick)) 4 0 (R.Tick tick)
+inRange tick = refusedIf (not (isValid tick)) 4 0 (R.Tick tick)
 
 -- '2 over both parts, 3 over both parts (the first part first in each), 4'
 unfoldable pub readOf : Reading → Read
 readOf (TwoPart first second) =
-    refusing (not (finite first)) 2 0
-    (refusing (not (finite second)) 2 1
-    (refusing (beyond mostDays first) 3 0
-    (refusing (beyond mostDays second) 3 1
+    refusedIf (not (finite first)) 2 0
+    (refusedIf (not (finite second)) 2 1
+    (refusedIf (beyond mostDays first) 3 0
+    (refusedIf (beyond mostDays second) 3 1
     (inRange (tickOfDate first second)))))
 readOf (SinceJ2000 seconds) =
-    refusing (not (finite seconds)) 2 0
-    (refusing (beyond mostSeconds seconds) 3 0
+    refusedIf (not (finite seconds)) 2 0
+    (refusedIf (beyond mostSeconds seconds) 3 0
     (inRange (tickOfSeconds seconds)))
 readOf (Ticks tick) = inRange tick
 

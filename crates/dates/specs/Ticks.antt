@@ -12,11 +12,13 @@ dayTicks = 86400000000000
 abbrev pub secondTicks : ℕ
 secondTicks = 1000000000
 
--- a double of days or of seconds, `per` ticks each, 'rounded to its nearest tick (halves to the greater)'
-unfoldable pub nearestTick : ℕ → Float → ℤ
-nearestTick per x = nearest (pos per *ℤ numerator x) (denominator x)
+-- a double of days or of seconds, `per` ticks each, 'rounded to its nearest tick (halves to the
+-- greater)'
+unfoldable pub ticksRounded : ℕ → Float → ℤ
+ticksRounded per x = nearest (pos per *ℤ numerator x) (denominator x)
 
--- 'Julian date 2443144.5003725' in ticks, a whole number: it is 24431445003725 ten-millionths of a day
+-- 'Julian date 2443144.5003725' in ticks, a whole number: it is 24431445003725 ten-millionths of a
+-- day
 abbrev pub origin : ℕ
 origin = 24431445003725 * (dayTicks / 10 ^ 7)
 
@@ -26,8 +28,8 @@ j2000 = pos (2451545 * dayTicks) -ℤ pos origin
 
 -- 'Each date part is rounded to its nearest tick (halves to the greater) and the two are added'
 unfoldable pub tickOfDate : Float → Float → ℤ
-tickOfDate first second = nearestTick dayTicks first +ℤ nearestTick dayTicks second -ℤ pos origin
+tickOfDate first second = ticksRounded dayTicks first +ℤ ticksRounded dayTicks second -ℤ pos origin
 
 -- 'seconds are rounded once'
 unfoldable pub tickOfSeconds : Float → ℤ
-tickOfSeconds seconds = nearestTick secondTicks seconds +ℤ j2000
+tickOfSeconds seconds = ticksRounded secondTicks seconds +ℤ j2000

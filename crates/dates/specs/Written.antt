@@ -1,5 +1,6 @@
--- 'Writing a tick as a date: the first part is the last Julian date ending in .5 not after it, exact; the second is the ticks since then divided by
--- 86,400,000,000,000 as one rounded double division.'
+-- 'Writing a tick as a date: the first part is the last Julian date ending in .5 not after it,
+-- exact; the second is the ticks since then divided by 86,400,000,000,000 as one rounded double
+-- division.'
 use mathlib.Core.Bool.{cond}
 use Prim.Native.Nat.{_/_}
 use lib.IntN.{ℤ, pos, _+ℤ_, _-ℤ_, _*ℤ_}
@@ -25,7 +26,8 @@ sinceDay tick = sinceHalf tick -ℤ pos dayTicks *ℤ dayOf tick
 
 -- n + 1/2 is (2n + 1) / 2. `first-exact` of proofs/ReadBack says that this division is exact
 unfoldable pub firstPart : ℤ → Float
-firstPart tick = div binary64 (ofInt binary64 (pos 2 *ℤ dayOf tick +ℤ pos 1)) (ofInt binary64 (pos 2))
+firstPart tick =
+    div binary64 (ofInt binary64 (pos 2 *ℤ dayOf tick +ℤ pos 1)) (ofInt binary64 (pos 2))
 
 unfoldable pub secondPart : ℤ → Float
 secondPart tick = div binary64 (ofInt binary64 (sinceDay tick)) (ofInt binary64 (pos dayTicks))
@@ -35,4 +37,5 @@ dateOf tick = record { first = firstPart tick; second = secondPart tick }
 
 -- '4: epoch outside the range', place 0: 'Reading or writing a date counts no step.'
 unfoldable pub writtenOf : ℤ → Written
-writtenOf tick = cond (isValid tick) (W.Date (dateOf tick)) (W.Refused (record { number = 4; place = 0 }))
+writtenOf tick =
+    cond (isValid tick) (W.Date (dateOf tick)) (W.Refused (record { number = 4; place = 0 }))

@@ -9,8 +9,8 @@ pub struct Parts {
     pub exponent: u64,
 }
 
-// A finite double's exact value, with its leading digit. Where the exponent is 0 that digit is missing: it is given all the same, and the value is less, either
-// way, than is said.
+// A finite double's exact value, with its leading digit. Where the exponent is 0 that digit is
+// missing: it is given all the same, and the value is less, either way, than is said.
 pub fn take_apart(x: f64) -> Parts
     requires { ⌜ T (finite x) ⌝ }
     ensures { λ r. ⌜ Apart x (r .digits) (r .exponent) ⌝ }

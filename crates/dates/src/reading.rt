@@ -7,15 +7,16 @@ use crate::span::Span;
 use crate::span::plus;
 use crate::ticks::ticks_of_days;
 use crate::ticks::ticks_of_seconds;
-use scales::answer::Refusal;
+use scales::refusal::Refusal;
 use scales::tick::valid;
 ghost use mathlib.Core.Path.{_≡_};
 ghost use mathlib.Core.Bool.{false, _&&_};
 ghost use Rattle.dates.specs.declared.reading.Reading.the-variants as R;
 ghost use Rattle.dates.specs.Readings.{inRange, mostDays, readOf, readOfDate, refusedWith};
-ghost use Rattle.dates.specs.Inner.{Reach, Within, modest, passing, worth};
+ghost use Rattle.dates.specs.Inner.{Reach, SpanWithin, modest, passing, worth};
 
-// 'A reading is a two-part Julian date in days, two doubles; or seconds past J2000, one double; or ticks.'
+// 'A reading is a two-part Julian date in days, two doubles; or seconds past J2000, one double; or
+// ticks.'
 pub enum Reading {
     TwoPart(f64, f64),
     SinceJ2000(f64),
@@ -55,10 +56,10 @@ pub fn ranged(tick: i64) -> Read
     refused(4, 0)
 }
 
-// So many units of `per` ticks, and ticks. `most` units are 100,000 days: beyond them, either way, no ticks of a span bring it back into the range, and up to
-// there it fits 64 bits.
+// So many units of `per` ticks, and ticks. `most` units are 100,000 days: beyond them, either way,
+// no ticks of a span bring it back into the range, and up to there it fits 64 bits.
 fn placed(span: Span, per: i64, most: i64) -> Read
-    requires { ⌜ Within modest span ⌝ }
+    requires { ⌜ SpanWithin modest span ⌝ }
     requires { ⌜ Reach per most ⌝ }
     ensures { λ r. ⌜ r ≡ inRange (worth per span) ⌝ }
 {
@@ -72,7 +73,8 @@ fn placed(span: Span, per: i64, most: i64) -> Read
     ranged(units * per + span.ticks)
 }
 
-// The refusal of two parts of which one does not pass: '2 over both parts, 3 over both parts (the first part first in each)'.
+// The refusal of two parts of which one does not pass: '2 over both parts, 3 over both parts (the
+// first part first in each)'.
 fn no_date(first: f64, second: f64) -> Read
     requires { ⌜ (passing mostDays first && passing mostDays second) ≡ false ⌝ }
     ensures { λ r. ⌜ r ≡ readOf (R.TwoPart first second) ⌝ }
@@ -89,7 +91,8 @@ fn no_date(first: f64, second: f64) -> Read
     refused(3, SECOND)
 }
 
-// Both parts, each to its nearest tick, less Julian date 2443144.5003725, which is 2,443,144 days and 43,232.184 s.
+// Both parts, each to its nearest tick, less Julian date 2443144.5003725, which is 2,443,144 days
+// and 43,232.184 s.
 fn two_part(first: f64, second: f64) -> Read
     ensures { λ r. ⌜ r ≡ readOf (R.TwoPart first second) ⌝ }
 {

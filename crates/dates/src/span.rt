@@ -1,6 +1,7 @@
-// A count of ticks that may be too wide for 64 bits, as whole units, days or seconds, and ticks. A date part reaches 4.32·10^20 ticks.
+// A count of ticks that may be too wide for 64 bits, as whole units, days or seconds, and ticks. A
+// date part reaches 4.32·10^20 ticks.
 ghost use lib.IntN.{_+ℤ_};
-ghost use Rattle.dates.specs.Inner.{Spanned, Within, modest};
+ghost use Rattle.dates.specs.Inner.{Spanned, SpanWithin, modest};
 
 pub struct Span {
     pub units: i64,
@@ -9,8 +10,8 @@ pub struct Span {
 
 // The sum of two of one unit.
 pub fn plus(a: Span, b: Span) -> Span
-    requires { ⌜ Within modest a ⌝ }
-    requires { ⌜ Within modest b ⌝ }
+    requires { ⌜ SpanWithin modest a ⌝ }
+    requires { ⌜ SpanWithin modest b ⌝ }
     ensures { λ r. ⌜ Spanned r (a .units +ℤ b .units) (a .ticks +ℤ b .ticks) ⌝ }
 {
     Span {

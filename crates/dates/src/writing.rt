@@ -1,6 +1,6 @@
 // A tick, written as a date.
 use crate::reading::Date;
-use scales::answer::Refusal;
+use scales::refusal::Refusal;
 use scales::tick::valid;
 ghost use mathlib.Core.Path.{_≡_};
 ghost use Prim.Native.Nat.{_+_, _*_, _<_, _≤_};
@@ -17,7 +17,8 @@ pub enum Written {
     Refused(Refusal),
 }
 
-// The ticks since 70,000 days before JD 2443144.5, which is before every valid tick; the caller's is valid.
+// The ticks since 70,000 days before JD 2443144.5, which is before every valid tick; the caller's
+// is valid.
 fn since_first(tick: i64) -> u64
     requires { ⌜ natAbs tick ≤ furthest ⌝ }
     ensures { λ r. ⌜ Since tick r ⌝ }
@@ -28,23 +29,28 @@ fn since_first(tick: i64) -> u64
     (tick as u64) + 6_048_000_032_184_000_000
 }
 
-// The Julian date so many days after 2373144.5, which is half of 4,746,289. The caller's days are a valid tick's.
+// The Julian date so many days after 2373144.5, which is half of 4,746,289. The caller's days are a
+// valid tick's.
 fn julian_date(days: u64) -> f64
     requires { ⌜ days ≤ 140000 ⌝ }
-    ensures { λ r. ⌜ r ≡ div binary64 (ofInt binary64 (pos (2 * days + 4746289))) (ofInt binary64 (pos 2)) ⌝ }
+    ensures { λ r. ⌜
+        r ≡ div binary64 (ofInt binary64 (pos (2 * days + 4746289))) (ofInt binary64 (pos 2)) ⌝ }
 {
     ((2 * days + 4_746_289) as f64) / 2.0
 }
 
-// 'the ticks since then divided by 86,400,000,000,000 as one rounded double division': less than a day's ticks are cast exactly.
+// 'the ticks since then divided by 86,400,000,000,000 as one rounded double division': less than a
+// day's ticks are cast exactly.
 fn part_of_day(ticks: u64) -> f64
     requires { ⌜ ticks < dayTicks ⌝ }
-    ensures { λ r. ⌜ r ≡ div binary64 (ofInt binary64 (pos ticks)) (ofInt binary64 (pos dayTicks)) ⌝ }
+    ensures { λ r. ⌜
+        r ≡ div binary64 (ofInt binary64 (pos ticks)) (ofInt binary64 (pos dayTicks)) ⌝ }
 {
     (ticks as f64) / 86_400_000_000_000.0
 }
 
-// Writes a tick as a date: the last Julian date ending in .5 not after it, and the part of a day since then, in [0, 1); or refusal 4.
+// Writes a tick as a date: the last Julian date ending in .5 not after it, and the part of a day
+// since then, in [0, 1); or refusal 4.
 pub fn write_date(tick: i64) -> Written
     ensures { λ r. ⌜ r ≡ writtenOf tick ⌝ }
 {

@@ -1,5 +1,3 @@
-pub mod Asked
-pub mod Walk
+pub mod Order
 pub mod Conversion
-pub mod Batch
 pub mod Inner

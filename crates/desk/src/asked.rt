@@ -1,13 +1,17 @@
-// What is asked, before any table or reading is looked at: the two scales, and whether the path between them crosses the table.
-use scales::answer::Refusal;
+// What is asked, before any table or reading is looked at: the two scales, and whether the path
+// between them crosses the table.
 use scales::path::crosses_table;
+use scales::refusal::Refusal;
 use scales::scale::Named;
+use scales::scale::Purpose;
 use scales::scale::Scale;
 use scales::scale::scale_of;
 ghost use mathlib.Core.Path.{_≡_};
-ghost use Rattle.desk.specs.Asked.{askedOf, askedBetween};
+ghost use Rattle.desk.specs.Order.{unless};
+ghost use Rattle.desk.specs.Inner.{askedBy, askedOf};
 
-// A path that needs no table, or one that crosses TT to TDB, from the first scale to the second; or refusal 1 or 8.
+// A path that needs no table, or one that crosses TT to TDB, from the first scale to the second; or
+// refusal 1 or 8.
 pub enum Asked {
     Plain(Scale, Scale),
     Crossing(Scale, Scale),
@@ -15,7 +19,7 @@ pub enum Asked {
 }
 
 fn asked_between(start: Scale, end: Scale, fits: bool) -> Asked
-    ensures { λ r. ⌜ r ≡ askedBetween start end fits ⌝ }
+    ensures { λ r. ⌜ r ≡ askedBy (unless fits 8 0) start end ⌝ }
 {
     if !fits {
         return Asked::Refused(Refusal {
@@ -29,13 +33,14 @@ fn asked_between(start: Scale, end: Scale, fits: bool) -> Asked
     Asked::Plain(start, end)
 }
 
-// 'Order: 1 (from, then to), 8, ..': `fits` says whether the lent lengths fit. A single conversion lends none.
-pub fn asked_of(from: u32, to: u32, fits: bool) -> Asked
-    ensures { λ r. ⌜ r ≡ askedOf from to fits ⌝ }
+// 'Order: 1 (from, then to), 8, ..': `fits` says whether the lent lengths fit. A single conversion
+// lends none.
+pub fn asked_of(purpose: Purpose, from: u32, to: u32, fits: bool) -> Asked
+    ensures { λ r. ⌜ r ≡ askedOf purpose from to fits ⌝ }
 {
-    match scale_of(from, 0) {
+    match scale_of(purpose, from, 0) {
         Named::Refused(refusal) => Asked::Refused(refusal),
-        Named::Scale(start) => match scale_of(to, 1) {
+        Named::Scale(start) => match scale_of(purpose, to, 1) {
             Named::Refused(refusal) => Asked::Refused(refusal),
             Named::Scale(end) => asked_between(start, end, fits),
         },

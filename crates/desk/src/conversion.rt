@@ -1,26 +1,29 @@
-// A conversion: 'Order: 1 (from, then to), .. then the table 10 to 16 if the path crosses TT to TDB, .. then 2 .., 3 .., 4, then step by step, 6 before 4.'
+// A conversion: 'Order: 1 (from, then to), .. then the table 10 to 16 if the path crosses TT to
+// TDB, .. then 2 .., 3 .., 4, then step by step, 6 before 4.'
 use crate::asked::Asked;
 use crate::asked::asked_of;
-use crate::opened::how_many;
-use crate::opened::taken;
-use crate::walk::Kept;
-use crate::walk::walk;
 use blocks::answer::Judged;
 use blocks::judging::judge;
 use dates::reading::Read;
 use dates::reading::Reading;
 use dates::reading::tick_of;
 use image::table::Table;
+use opened::how_many;
+use opened::taken;
 use scales::answer::Answer;
 use scales::answer::Epoch;
-use scales::answer::Refusal;
-use scales::path::Way;
-use scales::path::next_step;
+use scales::path::is_one_scale;
+use scales::refusal::Refusal;
+use scales::scale::Purpose;
 use scales::scale::Scale;
+use walk::kept::Kept;
+use walk::walk::walk;
 ghost use mathlib.Core.Path.{_≡_};
 ghost use Rattle.dates.specs.declared.reading.Read.the-variants as R;
-ghost use Rattle.desk.specs.Conversion.{betweenOf, crossedOf, convertJudged, convertOf};
-ghost use Rattle.desk.specs.Inner.{Held, Opened, Lent, askedOver, overBytes, takenOver};
+ghost use Rattle.desk.specs.Conversion.{betweenOf, convertJudged, convertOf};
+ghost use Rattle.walk.specs.Inner.{Held};
+ghost use Rattle.opened.specs.Opened.{Opened, Lent};
+ghost use Rattle.desk.specs.Inner.{crossedOf, askedOver, overBytes, takenOver};
 
 // What was read, walked. The coefficients are those of the table that is kept.
 pub fn between(from: Scale, to: Scale, read: Read, kept: Kept, coefficients: &[i64]) -> Answer
@@ -43,8 +46,8 @@ fn taken_over(from: Scale, to: Scale, read: Read, bytes: &[u8], table: Table) ->
     between(from, to, read, Kept::Table(table), &coefficients[..many])
 }
 
-// Over any bytes. This has room for the largest table, which no other conversion should pay for: a compiler keeps it apart as long as it is called for a tick
-// and for a refusal.
+// Over any bytes. This has room for the largest table, which no other conversion should pay for: a
+// compiler keeps it apart as long as it is called for a tick and for a refusal.
 fn over_bytes(from: Scale, to: Scale, read: Read, bytes: &[u8]) -> Answer
     ensures { λ r. ⌜ r ≡ overBytes from to read (now (bytes .entry)) ⌝ }
 {
@@ -54,15 +57,16 @@ fn over_bytes(from: Scale, to: Scale, read: Read, bytes: &[u8]) -> Answer
     }
 }
 
-// A tick that was read, converted. Into its own scale it goes as it is, which is all that a reading by itself takes: that answer is returned at once.
+// A tick that was read, converted. Into its own scale it goes as it is, which is all that a reading
+// by itself takes: that answer is returned at once.
 fn convert_tick(asked: Asked, tick: i64, table: &[u8]) -> Answer
     ensures { λ r. ⌜ r ≡ askedOver asked (R.Tick tick) (now (table .entry)) ⌝ }
 {
     match asked {
         Asked::Plain(start, end) => {
-            let Way::By(_) = next_step(start, end) else {
+            if is_one_scale(start, end) {
                 return Answer::Converted(Epoch { scale: start, tick }, 0);
-            };
+            }
             walk(start, end, tick, Kept::Nothing, &[])
         }
         Asked::Crossing(start, end) => over_bytes(start, end, Read::Tick(tick), table),
@@ -81,12 +85,13 @@ fn refuse(asked: Asked, refusal: Refusal, table: &[u8]) -> Answer
     }
 }
 
-// Converts a reading in the scale of the first code into the scale of the second, in ticks, over the table that the bytes hold; or tells the refusal. 'A path
-// that doesn't cross never looks at the table.'
+// Converts a reading in the scale of the first code into the scale of the second, in ticks, over
+// the table that the bytes hold; or tells the refusal. 'A path that doesn't cross never looks at
+// the table.'
 pub fn convert(from: u32, to: u32, reading: Reading, table: &[u8]) -> Answer
     ensures { λ r. ⌜ r ≡ convertOf from to reading (now (table .entry)) ⌝ }
 {
-    let asked = asked_of(from, to, true);
+    let asked = asked_of(Purpose::Reading, from, to, true);
     match tick_of(reading) {
         Read::Tick(tick) => convert_tick(asked, tick, table),
         Read::Refused(refusal) => refuse(asked, refusal, table),
@@ -103,8 +108,10 @@ fn crossed(from: Scale, to: Scale, read: Read, judged: Judged, coefficients: &[i
     }
 }
 
-// The same over table bytes that have been judged, for callers that convert line by line. The coefficients are those of the table, if it was accepted.
+// The same over table bytes that have been judged, for callers that convert line by line. The
+// coefficients are those of the table, if it was accepted.
 pub fn convert_judged(
+    purpose: Purpose,
     from: u32,
     to: u32,
     reading: Reading,
@@ -112,10 +119,11 @@ pub fn convert_judged(
     coefficients: &[i64],
 ) -> Answer
     requires { ⌜ Lent judged (now coefficients) ⌝ }
-    ensures { λ r. ⌜ r ≡ convertJudged from to reading judged (now (coefficients .entry)) ⌝ }
+    ensures { λ r. ⌜ r
+        ≡ convertJudged purpose from to reading judged (now (coefficients .entry)) ⌝ }
 {
     let read = tick_of(reading);
-    match asked_of(from, to, true) {
+    match asked_of(purpose, from, to, true) {
         Asked::Plain(start, end) => between(start, end, read, Kept::Nothing, &[]),
         Asked::Crossing(start, end) => crossed(start, end, read, judged, coefficients),
         Asked::Refused(refusal) => Answer::Refused(refusal),

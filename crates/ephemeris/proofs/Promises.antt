@@ -1,5 +1,5 @@
--- What is promised of the step over a table, for every accepted table and every tick: how near to the exact sum, in order, there and back, and when it is
--- refused. Assumes nothing.
+-- What is promised of the step over a table, for every accepted table and every tick: how near to
+-- the exact sum, in order, there and back, and when it is refused. Assumes nothing.
 use mathlib.Core.Path.{_≡_, _∙_, subst}
 use mathlib.Core.Logic.{_⊎_, inl, inr, ⊎-elim, _↔_}
 use mathlib.Core.Bool.{Bool, true, false, cond}
@@ -11,21 +11,23 @@ use lib.Dec.{leb, le→leb}
 use lib.IntN.{ℤ, pos, _+ℤ_, _-ℤ_, _*ℤ_, negℤ, natAbs}
 use lib.Signed.{_≤ℤ_, _<ℤ_, leZ, ≤ℤ-refl}
 use Rattle.numbers.proofs.Differences.{rep, rep₂, rep₃, lin, sizes}
-use Rattle.numbers.proofs.Order.{≤-trans, ≤-antisym, ≤-total, abs-neg}
+use Rattle.numbers.proofs.Flags.{both, and-right}
+use Rattle.numbers.proofs.Order.{≤-trans, ≤-antisym, ≤-total, abs-neg, le-or-lt}
 use Rattle.numbers.proofs.Solver.{ring, quote, all₃, all₄}
 use Rattle.numbers.proofs.Machine.{yes-le, le-yes, size-test, clash, is-true, no-le}
 use Rattle.scales.specs.Tick.{furthest, isValid}
+use Rattle.scales.specs.Answers.{keptIn, steppedNumber}
+use Rattle.scales.specs.declared.answer.Epoch.{Epoch}
+use Rattle.scales.specs.declared.answer.Stepped.the-variants.{Reached, OutsideRange}
+use Rattle.scales.specs.declared.scale.Scale.the-variants.{Tdb}
 use Rattle.granule.specs.Rule.{unitsInTick}
 use Rattle.image.specs.declared.table.Table.{Table}
 use Rattle.ephemeris.specs.Table.{S, H, lastPlace, tickAt, isInside, placeOf, tableDelay, tableExact, tdbOf, tdbAt, earliestPlace, ttOf, isCovered}
 use Rattle.ephemeris.specs.Accepted.{Accepted, Earliest}
-use Rattle.ephemeris.specs.Steps.{keptTdb, tdbStep, ttStep, tdbNumber, ttNumber}
-use Rattle.scales.specs.declared.steps.Tdb.{Tdb}
-use Rattle.ephemeris.specs.declared.over.TdbByTable.the-variants.{Reached, OutsideRange}
-use Rattle.ephemeris.proofs.Where.{le-or-lt}
+use Rattle.ephemeris.specs.Steps.{tdbStep, ttStep}
 use Rattle.ephemeris.proofs.Bounds.{tick-small}
 use Rattle.ephemeris.proofs.Granules.{delay-exact}
-use Rattle.ephemeris.proofs.Ticks.{both, second-no, inside-both, inside-yes, before-no, after-no, placed, tick-inside, place-of-tick, tick-of-place, tdb-of}
+use Rattle.ephemeris.proofs.Ticks.{inside-both, inside-yes, before-no, after-no, placed, tick-inside, place-of-tick, tick-of-place, tdb-of}
 use Rattle.ephemeris.proofs.Order.{tdb-order, tdb-rises}
 use Rattle.ephemeris.proofs.Search.{earliest-inside, earliest-none, earliest-found, earliest-reached, earliest-least}
 use Rattle.ephemeris.proofs.Closing.{earliest-near}
@@ -57,31 +59,34 @@ unfolding placeOf
 before-place T s i low l = rw (place-of-tick T i) at (places-less (S T) s (tickAt T i) low l)
 
 -- a tick inside is not refused with 6, and a TDB that is covered is not
-kept-number : (valid : Bool) (tdb : Tdb) → tdbNumber (cond valid (Reached tdb) OutsideRange) ≡ 6 → ⊥
-unfolding tdbNumber
-kept-number true tdb e = omega arith
-kept-number false tdb e = omega arith
+kept-number : (valid : Bool) (epoch : Epoch) → steppedNumber (cond valid (Reached epoch) OutsideRange) ≡ 6 → ⊥
+unfolding steppedNumber
+kept-number true epoch e = omega arith
+kept-number false epoch e = omega arith
 
-inside-number : (T : Table) (cs : List ℤ) (t : ℤ) → isInside T t ≡ true → tdbNumber (tdbStep T cs t) ≡ 6 → ⊥
-unfolding tdbStep keptTdb
-inside-number T cs t h = rw h (kept-number (isValid (tdbOf T cs t)) (record { 0 = tdbOf T cs t }))
+inside-number : (T : Table) (cs : List ℤ) (t : ℤ) → isInside T t ≡ true → steppedNumber (tdbStep T cs t) ≡ 6 → ⊥
+unfolding tdbStep keptIn
+inside-number T cs t h = rw h (kept-number (isValid (tdbOf T cs t)) (record { scale = Tdb; tick = tdbOf T cs t }))
 
-outside-number : (T : Table) (cs : List ℤ) (t : ℤ) → isInside T t ≡ false → tdbNumber (tdbStep T cs t) ≡ 6
-unfolding tdbStep tdbNumber
+outside-number : (T : Table) (cs : List ℤ) (t : ℤ) → isInside T t ≡ false → steppedNumber (tdbStep T cs t) ≡ 6
+unfolding tdbStep steppedNumber
 outside-number T cs t h = rw h
 
-covered-number : (T : Table) (cs : List ℤ) (a : ℤ) → isCovered T cs a ≡ true → ttNumber (ttStep T cs a) ≡ 6 → ⊥
-unfolding ttStep ttNumber
+covered-number : (T : Table) (cs : List ℤ) (a : ℤ) → isCovered T cs a ≡ true → steppedNumber (ttStep T cs a) ≡ 6 → ⊥
+unfolding ttStep steppedNumber
 covered-number T cs a h = rw h (λ e. omega arith)
 
-uncovered-number : (T : Table) (cs : List ℤ) (a : ℤ) → isCovered T cs a ≡ false → ttNumber (ttStep T cs a) ≡ 6
-unfolding ttStep ttNumber
+uncovered-number : (T : Table) (cs : List ℤ) (a : ℤ) → isCovered T cs a ≡ false → steppedNumber (ttStep T cs a) ≡ 6
+unfolding ttStep steppedNumber
 uncovered-number T cs a h = rw h
 
 module _ (T : Table) (cs : List ℤ) (A : Accepted T cs) where
-  -- ---- 1. Each TT to TDB answer is within 33/64 tick of TT minus the exact sum, all times 65536·H^n: 64·|u·TDB − (u·TT − H^n·sum)| ≤ 33·u
+  -- ---- 1. Each TT to TDB answer is within 33/64 tick of TT minus the exact sum, all times
+  -- 65536·H^n: 64·|u·TDB − (u·TT − H^n·sum)| ≤ 33·u
   pub distance : (t : ℤ) → isInside T t ≡ true
-      → 64 * natAbs (pos (unitsInTick * H T ^ T .degree) *ℤ tdbOf T cs t -ℤ (pos (unitsInTick * H T ^ T .degree) *ℤ t -ℤ tableExact T cs (placeOf T t)))
+      → 64 * natAbs
+      (pos (unitsInTick * H T ^ T .degree) *ℤ tdbOf T cs t
+      -ℤ (pos (unitsInTick * H T ^ T .degree) *ℤ t -ℤ tableExact T cs (placeOf T t)))
       ≤ 33 * (unitsInTick * H T ^ T .degree)
   unfolding tdbOf
   distance t h =
@@ -91,12 +96,14 @@ module _ (T : Table) (cs : List ℤ) (A : Accepted T cs) where
       rw (turned u t d (tableExact T cs i), abs-neg (u *ℤ d -ℤ tableExact T cs i), ← factor (pos unitsInTick) d (pos (H T ^ T .degree)))
       (omega (arith, delay-exact T cs A i (placed T t h)))
 
-  -- ---- 2. Of two TT ticks the earlier never has the later TDB, and of two TDB ticks the earlier never goes back to a later TT
+  -- ---- 2. Of two TT ticks the earlier never has the later TDB, and of two TDB ticks the earlier
+  -- never goes back to a later TT
   pub order : (s t : ℤ) → isInside T s ≡ true → isInside T t ≡ true → s ≤ℤ t → tdbOf T cs s ≤ℤ tdbOf T cs t
   unfolding placeOf
   order s t hs ht l =
       let low = inside-both T s hs .0 in
-      rw (tdb-of T cs s low, tdb-of T cs t (inside-both T t ht .0)) (tdb-order T cs A (placeOf T s) (placeOf T t) (places-order (S T) s t low l) (placed T t ht))
+      rw (tdb-of T cs s low, tdb-of T cs t (inside-both T t ht .0))
+      (tdb-order T cs A (placeOf T s) (placeOf T t) (places-order (S T) s t low l) (placed T t ht))
 
   pub order-back : (a b : ℤ) → a ≤ℤ b → ttOf T cs a ≤ℤ ttOf T cs b
   unfolding ttOf tickAt
@@ -128,7 +135,8 @@ module _ (T : Table) (cs : List ℤ) (A : Accepted T cs) where
   -- and there is at most one
   pub earliest-one : (a s t : ℤ) → Earliest T cs a s → Earliest T cs a t → s ≡ t
   earliest-one a s t p q = ⊎-elim
-      (λ (k : s ≤ℤ t). ⊎-elim (λ (l : t ≤ℤ s). ≤-antisym s t k l) (λ (l : s <ℤ t). absurd (clash (tdbOf T cs s) a (q .none s (p .inside) l) (p .reached))) (≤-total t s))
+      (λ (k : s ≤ℤ t). ⊎-elim (λ (l : t ≤ℤ s). ≤-antisym s t k l) (λ (l : s <ℤ t). absurd (clash (tdbOf T cs s) a (q .none s (p .inside) l) (p .reached)))
+      (≤-total t s))
       (λ (k : t <ℤ s). absurd (clash (tdbOf T cs t) a (p .none t (q .inside) k) (q .reached)))
       (≤-total s t)
 
@@ -141,38 +149,34 @@ module _ (T : Table) (cs : List ℤ) (A : Accepted T cs) where
       ∙ is-true (leb (natAbs t) furthest) (le→leb (natAbs t) furthest (tick-small T (A .bounds) (earliestPlace T cs a) (earliest-inside T cs a)))
 
   -- ---- 3. TT to TDB to TT lands within one tick, and so does TDB to TT to TDB
-  pub tdb-covered : (t : ℤ) → isInside T t ≡ true → isCovered T cs (tdbOf T cs t) ≡ true
-  unfolding isCovered
-  tdb-covered t h =
-      let e = tdb-of T cs t (inside-both T t h .0) in
-      let i = placeOf T t in
-      let x = yes-le (tdbAt T cs 0) (tdbAt T cs i) (tdb-order T cs A 0 i (omega arith) (placed T t h)) in
-      let y = yes-le (tdbAt T cs i) (tdbAt T cs (lastPlace T)) (tdb-order T cs A i (lastPlace T) (placed T t h) (le-refl (lastPlace T))) in
-      rw (e, x, y)
-
   back-place : (i : ℕ) → i ≤ lastPlace T → let j = earliestPlace T cs (tdbAt T cs i) in (j ≤ i) × (i ≤ j + 1)
   back-place i h =
       let a = tdbAt T cs i in
       let j = earliestPlace T cs a in (
         earliest-least T cs a i (≤ℤ-refl a),
         ⊎-elim (λ (l : i ≤ j + 1). l)
-            (λ (l : j + 1 < i). absurd (clash (tdbAt T cs j) a (tdb-rises T cs A j i (omega arith) h) (earliest-reached T cs a (tdb-order T cs A i (lastPlace T) h (le-refl (lastPlace T))))))
+            (λ (l : j + 1 < i). absurd
+            (clash (tdbAt T cs j) a (tdb-rises T cs A j i (omega arith) h)
+            (earliest-reached T cs a (tdb-order T cs A i (lastPlace T) h (le-refl (lastPlace T))))))
             (le-or-lt i (j + 1)),
       )
 
-  pub there-and-back : (t : ℤ) → isInside T t ≡ true → (ttOf T cs (tdbOf T cs t) ≤ℤ t) × (t ≤ℤ (ttOf T cs (tdbOf T cs t) +ℤ pos 1))
+  pub there-and-back : (t : ℤ) → isInside T t ≡ true
+      → (ttOf T cs (tdbOf T cs t) ≤ℤ t) × (t ≤ℤ (ttOf T cs (tdbOf T cs t) +ℤ pos 1))
   unfolding ttOf tickAt
   there-and-back t h =
       let low = inside-both T t h .0 in
       let i = placeOf T t in
       let p = back-place i (placed T t h) in
       let e = tdb-of T cs t low in
-      subst (λ (x : ℤ). (ttOf T cs (tdbOf T cs t) ≤ℤ x) × (x ≤ℤ (ttOf T cs (tdbOf T cs t) +ℤ pos 1))) (tick-of-place T t low) (rw e (near-tick i (earliestPlace T cs (tdbAt T cs i)) p))
+      subst (λ (x : ℤ). (ttOf T cs (tdbOf T cs t) ≤ℤ x) × (x ≤ℤ (ttOf T cs (tdbOf T cs t) +ℤ pos 1))) (tick-of-place T t low)
+      (rw e (near-tick i (earliestPlace T cs (tdbAt T cs i)) p))
     where
       near-tick : (i j : ℕ) → (j ≤ i) × (i ≤ j + 1) → (tickAt T j ≤ℤ tickAt T i) × (tickAt T i ≤ℤ (tickAt T j +ℤ pos 1))
       near-tick i j p = (ticks-order (S T) j i (p .0), next-tick (S T) i j (p .1))
 
-  pub back-and-there : (a : ℤ) → isCovered T cs a ≡ true → (a ≤ℤ tdbOf T cs (ttOf T cs a)) × (tdbOf T cs (ttOf T cs a) ≤ℤ (a +ℤ pos 1))
+  pub back-and-there : (a : ℤ) → isCovered T cs a ≡ true
+      → (a ≤ℤ tdbOf T cs (ttOf T cs a)) × (tdbOf T cs (ttOf T cs a) ≤ℤ (a +ℤ pos 1))
   unfolding ttOf tdbAt
   back-and-there a e = (
     earliest-of a e .reached,
@@ -182,23 +186,27 @@ module _ (T : Table) (cs : List ℤ) (A : Accepted T cs) where
         (le-or-lt (earliestPlace T cs a) 0),
   )
 
-  -- ---- 4. Refusal 6 is given exactly to a TT outside the table, and to a TDB before that of the first tick or after that of the last
-  pub refused : (t : ℤ) → (tdbNumber (tdbStep T cs t) ≡ 6) ↔ ((t <ℤ S T) ⊎ (tickAt T (lastPlace T) <ℤ t))
+  -- ---- 4. Refusal 6 is given exactly to a TT outside the table, and to a TDB before that of the
+  -- first tick or after that of the last
+  pub refused : (t : ℤ) → (steppedNumber (tdbStep T cs t) ≡ 6) ↔ ((t <ℤ S T) ⊎ (tickAt T (lastPlace T) <ℤ t))
   refused t = (to, λ o. outside-number T cs t (⊎-elim (before-no T t) (after-no T t) o))
     where
-      to : tdbNumber (tdbStep T cs t) ≡ 6 → (t <ℤ S T) ⊎ (tickAt T (lastPlace T) <ℤ t)
+      to : steppedNumber (tdbStep T cs t) ≡ 6 → (t <ℤ S T) ⊎ (tickAt T (lastPlace T) <ℤ t)
       to e = ⊎-elim
-          (λ (l : S T ≤ℤ t). ⊎-elim (λ (h : t ≤ℤ tickAt T (lastPlace T)). absurd (inside-number T cs t (inside-yes T t l h) e)) (λ (h : tickAt T (lastPlace T) <ℤ t). inr h) (≤-total t (tickAt T (lastPlace T))))
+          (λ (l : S T ≤ℤ t). ⊎-elim (λ (h : t ≤ℤ tickAt T (lastPlace T)). absurd (inside-number T cs t (inside-yes T t l h) e))
+          (λ (h : tickAt T (lastPlace T) <ℤ t). inr h) (≤-total t (tickAt T (lastPlace T))))
           (λ (l : t <ℤ S T). inl l)
           (≤-total (S T) t)
 
-  pub refused-back : (a : ℤ) → (ttNumber (ttStep T cs a) ≡ 6) ↔ ((a <ℤ tdbAt T cs 0) ⊎ (tdbAt T cs (lastPlace T) <ℤ a))
+  pub refused-back : (a : ℤ)
+      → (steppedNumber (ttStep T cs a) ≡ 6) ↔ ((a <ℤ tdbAt T cs 0) ⊎ (tdbAt T cs (lastPlace T) <ℤ a))
   unfolding isCovered
   refused-back a = (to, λ o. uncovered-number T cs a (⊎-elim before after o))
     where
-      to : ttNumber (ttStep T cs a) ≡ 6 → (a <ℤ tdbAt T cs 0) ⊎ (tdbAt T cs (lastPlace T) <ℤ a)
+      to : steppedNumber (ttStep T cs a) ≡ 6 → (a <ℤ tdbAt T cs 0) ⊎ (tdbAt T cs (lastPlace T) <ℤ a)
       to e = ⊎-elim
-          (λ (l : tdbAt T cs 0 ≤ℤ a). ⊎-elim (λ (h : a ≤ℤ tdbAt T cs (lastPlace T)). absurd (covered-number T cs a (all l h) e)) (λ (h : tdbAt T cs (lastPlace T) <ℤ a). inr h) (≤-total a (tdbAt T cs (lastPlace T))))
+          (λ (l : tdbAt T cs 0 ≤ℤ a). ⊎-elim (λ (h : a ≤ℤ tdbAt T cs (lastPlace T)). absurd (covered-number T cs a (all l h) e))
+          (λ (h : tdbAt T cs (lastPlace T) <ℤ a). inr h) (≤-total a (tdbAt T cs (lastPlace T))))
           (λ (l : a <ℤ tdbAt T cs 0). inl l)
           (≤-total (tdbAt T cs 0) a)
         where
@@ -209,4 +217,4 @@ module _ (T : Table) (cs : List ℤ) (A : Accepted T cs) where
       before l = let x = no-le (tdbAt T cs 0) a l in rw x
 
       after : tdbAt T cs (lastPlace T) <ℤ a → isCovered T cs a ≡ false
-      after l = second-no (leZ (tdbAt T cs 0) a) (leZ a (tdbAt T cs (lastPlace T))) (no-le a (tdbAt T cs (lastPlace T)) l)
+      after l = and-right (leZ (tdbAt T cs 0) a) (no-le a (tdbAt T cs (lastPlace T)) l)

@@ -1,25 +1,18 @@
--- Ticks of a table and their places: which ticks are inside, and that the tick S + i has the place i. Assumes nothing.
-use mathlib.Core.Path.{_≡_, refl, sym, ap}
-use mathlib.Core.Bool.{Bool, true, false, _&&_}
+-- Ticks of a table and their places: which ticks are inside, and that the tick S + i has the place
+-- i. Assumes nothing.
+use mathlib.Core.Path.{_≡_, sym, ap}
+use mathlib.Core.Bool.{true, false, not}
 use mathlib.Core.List.{List}
 use Prim.Native.Nat.{ℕ, _+_, _≤_, _<_}
 use native.Mathlib.Omega.{arith}
 use lib.Dec.{T}
 use lib.IntN.{ℤ, pos, _+ℤ_, _-ℤ_, natAbs}
-use lib.Signed.{_≤ℤ_, _<ℤ_, leZ}
+use lib.Signed.{_≤ℤ_, _<ℤ_, leZ, ltZ}
 use Rattle.numbers.proofs.Differences.{rep, rep₂, lin, sizes}
-use Rattle.numbers.proofs.Machine.{yes-le, le-yes, no-le}
+use Rattle.numbers.proofs.Flags.{both, and-right}
+use Rattle.numbers.proofs.Machine.{yes-le, le-yes, no-le, lt-no, not-lt}
 use Rattle.image.specs.declared.table.Table.{Table}
 use Rattle.ephemeris.specs.Table.{S, lastPlace, tickAt, isInside, placeOf, tableDelay, tdbOf, tdbAt}
-
--- ---- two tests in one
-pub both : (a b : Bool) → (a && b) ≡ true → (a ≡ true) × (b ≡ true)
-both true b e = (refl, e)
-both false b e = let z : _≡_ {A = ℕ} 0 1 = cc in let never : ⊥ = omega arith in absurd never
-
-pub second-no : (a b : Bool) → b ≡ false → (a && b) ≡ false
-second-no true b e = e
-second-no false b e = refl
 
 -- ---- over plain numbers
 there : (s t : ℤ) → s ≤ℤ t → s +ℤ pos (natAbs (t -ℤ s)) ≡ t
@@ -53,7 +46,14 @@ module _ (T : Table) where
 
   pub after-no : (t : ℤ) → tickAt T (lastPlace T) <ℤ t → isInside T t ≡ false
   unfolding isInside
-  after-no t l = second-no (leZ (S T) t) (leZ t (tickAt T (lastPlace T))) (no-le t (tickAt T (lastPlace T)) l)
+  after-no t l = and-right (leZ (S T) t) (no-le t (tickAt T (lastPlace T)) l)
+
+  -- as the code tests it
+  pub inside-is : (t : ℤ) → ltZ t (S T) ≡ false → not (ltZ (tickAt T (lastPlace T)) t) ≡ isInside T t
+  unfolding isInside
+  inside-is t e =
+      let x = yes-le (S T) t (lt-no t (S T) e) in
+      rw (x, not-lt (tickAt T (lastPlace T)) t)
 
   -- ---- places
   pub placed : (t : ℤ) → isInside T t ≡ true → placeOf T t ≤ lastPlace T
@@ -77,6 +77,6 @@ module _ (T : Table) where
   unfolding tdbAt
   tdb-of cs t h = ap (tdbOf T cs) (sym (tick-of-place t h))
 
-  pub tdb-is : (cs : List ℤ) (i : ℕ) → tdbAt T cs i ≡ (S T +ℤ pos i) -ℤ tableDelay T cs i
+  pub tdb-at-place : (cs : List ℤ) (i : ℕ) → tdbAt T cs i ≡ (S T +ℤ pos i) -ℤ tableDelay T cs i
   unfolding tdbAt tdbOf tickAt placeOf
-  tdb-is cs i = ap (λ (j : ℕ). (S T +ℤ pos i) -ℤ tableDelay T cs j) (back (S T) i)
+  tdb-at-place cs i = ap (λ (j : ℕ). (S T +ℤ pos i) -ℤ tableDelay T cs j) (back (S T) i)

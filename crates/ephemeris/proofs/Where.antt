@@ -1,13 +1,11 @@
--- Which granule a tick belongs to, and which one the tick after it. Over a count G, a length H and places. Assumes nothing.
+-- Which granule a tick belongs to, and which one the tick after it. Over a count G, a length H and
+-- places. Assumes nothing.
 use mathlib.Core.Path.{_≡_}
 use mathlib.Core.Logic.{_⊎_, inl, inr, ⊎-elim}
-use native.Mathlib.Decide.{decLe}
 use Prim.Native.Nat.{ℕ, suc, _+_, _*_, _-_, _/_, _≤_, _<_, min}
 use native.Mathlib.Nat.{mul-le-mul-right, div-add-mod', mod-lt}
 use native.Mathlib.Omega.{arith}
-
-pub le-or-lt : (m n : ℕ) → (m ≤ n) ⊎ (n < m)
-le-or-lt m n = elim (decLe m n) [ yes h ↦ inl h | no h ↦ inr (omega arith) ]
+use Rattle.numbers.proofs.Order.{le-or-lt}
 
 -- the place i stands in granule g: at the end of one only if it is the last
 pub record At (G H i g : ℕ) : Type 0 where
@@ -18,7 +16,9 @@ pub record At (G H i g : ℕ) : Type 0 where
 
 module _ (G H i q : ℕ) (some : 0 < G) where
   at-inner : q * H ≤ i → i < q * H + H → q ≤ G - 1 → At G H i (min q (G - 1))
-  at-inner lo hi k = let e : min q (G - 1) ≡ q = omega arith in rw e (record { there = omega arith; low = lo; high = omega arith; inner = λ x. hi })
+  at-inner lo hi k =
+      let e : min q (G - 1) ≡ q = omega arith in
+      rw e (record { there = omega arith; low = lo; high = omega arith; inner = λ x. hi })
 
   top : (G - 1) * H + H ≡ G * H
   top = let e : suc (G - 1) ≡ G = omega arith in let f : (G - 1) * H + H ≡ suc (G - 1) * H = omega arith in rw e at f
@@ -27,7 +27,13 @@ module _ (G H i q : ℕ) (some : 0 < G) where
   at-last b lo k =
       let e : min q (G - 1) ≡ G - 1 = omega arith in
       let le : G - 1 ≤ q = omega arith in
-      rw e (record { there = omega arith; low = omega (arith, mul-le-mul-right H le); high = omega (arith, top); inner = λ x. let z : ⊥ = omega arith in absurd z })
+      rw e (record {
+        there = omega arith;
+        low = omega (arith, mul-le-mul-right H le);
+        high = omega (arith, top);
+        inner = λ x. let z : ⊥ = omega arith in
+            absurd z;
+      })
 
   at : i ≤ G * H → q * H ≤ i → i < q * H + H → At G H i (min q (G - 1))
   at b lo hi = ⊎-elim (at-inner lo hi) (at-last b lo) (le-or-lt q (G - 1))
@@ -35,19 +41,10 @@ module _ (G H i q : ℕ) (some : 0 < G) where
 pub at-place : (G H i : ℕ) → 0 < H → 0 < G → i ≤ G * H → At G H i (min (i / H) (G - 1))
 at-place G H i h some b = at G H i (i / H) some b (omega (arith, div-add-mod' i H)) (omega (arith, div-add-mod' i H, mod-lt i h))
 
--- a place stands in one granule only
-before : (G H i g g' : ℕ) → At G H i g → At G H i g' → g < g' → ⊥
-before G H i g g' a b l = let inner = a .inner (omega (arith, b .there)) in omega (arith, b .low, mul-le-mul-right H l)
-
-pub at-one : (G H i g g' : ℕ) → At G H i g → At G H i g' → g ≡ g'
-at-one G H i g g' a b = ⊎-elim
-    (λ (k : g ≤ g'). ⊎-elim (λ (l : g' ≤ g). omega arith) (λ (l : g < g'). absurd (before G H i g g' a b l)) (le-or-lt g' g))
-    (λ (k : g' < g). absurd (before G H i g' g b a k))
-    (le-or-lt g g')
-
 -- the next tick: the same granule, or the start of the next
-pub next : (G H i g g' : ℕ) → 1 < H → At G H i g → At G H (suc i) g' → (g' ≡ g) ⊎ ((g' ≡ suc g) × (suc i ≡ g * H + H))
-next G H i g g' h a b = ⊎-elim
+pub next-granule : (G H i g g' : ℕ) → 1 < H → At G H i g → At G H (suc i) g'
+    → (g' ≡ g) ⊎ ((g' ≡ suc g) × (suc i ≡ g * H + H))
+next-granule G H i g g' h a b = ⊎-elim
     (λ k. ⊎-elim
     (λ l. inl (omega arith))
     (λ l. absurd (omega (arith, mul-le-mul-right H l)))
@@ -61,9 +58,11 @@ next G H i g g' h a b = ⊎-elim
     step : g' ≡ suc g → suc i ≡ g * H + H
     step e = let u : suc g < G = omega arith in let v = a .inner u in let w : suc g * H ≤ suc i = rw e at (b .low) in omega arith
 
--- how many joins lie between two places k ticks apart: since H is above the widest, 1024 for each is at most 1024 and k
+-- how many joins lie between two places k ticks apart: since H is above the widest, 1024 for each
+-- is at most 1024 and k
 pub joins : (G H i k g g' : ℕ) → 1024 ≤ H → At G H i g → At G H (i + k) g' → 1024 * g' ≤ 1024 * g + 1024 + k
 joins G H i k g g' h a b = ⊎-elim
     (λ (l : g' ≤ suc g). omega arith)
-    (λ (l : suc g < g'). let q = g' - suc g in let e : g' ≡ suc g + q = omega arith in let low : (suc g + q) * H ≤ i + k = rw e at (b .low) in omega (arith, mul-le-mul-right q h))
+    (λ (l : suc g < g'). let q = g' - suc g in let e : g' ≡ suc g + q = omega arith in let low : (suc g + q) * H ≤ i + k = rw e at (b .low) in
+    omega (arith, mul-le-mul-right q h))
     (le-or-lt g' (suc g))

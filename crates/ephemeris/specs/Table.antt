@@ -1,14 +1,15 @@
--- A table: 'a first tick S (TT), a granule length H ticks, a count G and a degree n', and its G·(n+1) coefficients, granule by granule, as one list.
--- Its ticks are S + i, at the places i from 0 to GH.
+-- A table: 'a first tick S (TT), a granule length H ticks, a count G and a degree n', and its
+-- G·(n+1) coefficients, granule by granule, as one list. Its ticks are S + i, at the places i from
+-- 0 to GH.
 use mathlib.Core.Bool.{Bool, _&&_}
 use mathlib.Core.List.{List}
 use Prim.Native.Nat.{ℕ, _+_, _*_, _-_, _/_, min}
 use lib.IntN.{ℤ, pos, natAbs, _+ℤ_, _-ℤ_}
-use lib.ListN.{take, drop}
 use lib.Signed.{leZ, ltZ}
 use Rattle.numbers.specs.Lowest.{lowest}
 use Rattle.granule.specs.Rule.{delayAt, exactAt}
 use Rattle.image.specs.declared.table.Table.{Table}
+use Rattle.image.specs.Image.{granuleIn}
 
 abbrev pub S : Table → ℤ
 S T = T .start .0
@@ -32,7 +33,8 @@ unfoldable pub placeOf : Table → ℤ → ℕ
 placeOf T t = natAbs (t -ℤ S T)
 
 -- ---- its granules
--- 'Granule g covers S+gH up to the tick before S+(g+1)H; the very last tick S+GH belongs to the last granule.'
+-- 'Granule g covers S+gH up to the tick before S+(g+1)H; the very last tick S+GH belongs to the
+-- last granule.'
 unfoldable pub granuleOf : Table → ℕ → ℕ
 granuleOf T i = min (i / H T) (T .count - 1)
 
@@ -41,8 +43,8 @@ unfoldable pub placeIn : Table → ℕ → ℕ
 placeIn T i = i - granuleOf T i * H T
 
 -- its c_0, .., c_n
-unfoldable pub coefficientsOf : Table → List ℤ → ℕ → List ℤ
-coefficientsOf T cs g = take (T .degree + 1) (drop (g * (T .degree + 1)) cs)
+abbrev pub coefficientsOf : Table → List ℤ → ℕ → List ℤ
+coefficientsOf T cs g = granuleIn cs (T .degree) g
 
 -- ---- D, TDB and the exact sum
 unfoldable pub tableDelay : Table → List ℤ → ℕ → ℤ

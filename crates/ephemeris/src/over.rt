@@ -1,13 +1,19 @@
-// The step between TT and TDB over an accepted table, as methods of one struct a scale. A tick leaves its struct only inside the step.
+// The step between TT and TDB over an accepted table, as methods of one struct a scale: from a tick
+// in its struct to an epoch of the other scale.
 use crate::earliest::covered;
 use crate::earliest::earliest_place;
-use crate::places::last_place;
+use crate::places::inside;
+use crate::places::place_of;
 use crate::places::tdb_at;
 use crate::places::tick_at;
+use crate::tick::near;
 use image::table::Table;
-use scales::steps::Tdb;
-use scales::steps::Tt;
-use scales::tick::valid;
+use linear::steps::Tdb;
+use linear::steps::Tt;
+use scales::answer::Epoch;
+use scales::answer::Stepped;
+use scales::answer::keep;
+use scales::scale::Scale;
 ghost use mathlib.Core.Path.{_≡_};
 ghost use Rattle.ephemeris.specs.Accepted.{Accepted};
 ghost use Rattle.ephemeris.specs.Steps.{tdbStep, ttStep};
@@ -18,53 +24,41 @@ pub struct OverTt(pub Tt);
 // A tick of TDB, over a table.
 pub struct OverTdb(pub Tdb);
 
-// The tick of TDB that a tick of TT comes to by the table; or refusal 6, 'outside the table'; or refusal 4, it left the range.
-pub enum TdbByTable {
-    Reached(Tdb),
-    OutsideTable,
-    OutsideRange,
-}
-
-// The tick of TT that a tick of TDB comes to by the table; or refusal 6, 'outside the table'. Every tick of a table is a valid epoch.
-pub enum TtByTable {
-    Reached(Tt),
-    OutsideTable,
-}
-
 impl OverTt {
     // 'TDB = TT − D', in ticks; '6 before 4'.
-    pub fn to_tdb(self, table: Table, coefficients: &[i64]) -> TdbByTable
+    pub fn to_tdb(self, table: Table, coefficients: &[i64]) -> Stepped
         requires { ⌜ Accepted table (now coefficients) ⌝ }
         ensures { λ r. ⌜ r ≡ tdbStep table (now (coefficients .entry)) (self .0 .0) ⌝ }
     {
-        let tick = self.0.0;
-        let start = table.start.0;
-        if tick < start {
-            return TdbByTable::OutsideTable;
+        let tick = self.0;
+        if !inside(table, tick) {
+            return Stepped::OutsideTable;
         }
-        let last = tick_at(table, last_place(table));
-        if last < tick {
-            return TdbByTable::OutsideTable;
-        }
-        let tdb = tdb_at(table, coefficients, (tick - start) as u64);
-        if valid(tdb) {
-            return TdbByTable::Reached(Tdb(tdb));
-        }
-        TdbByTable::OutsideRange
+        let tdb = tdb_at(table, coefficients, place_of(table, tick));
+        keep(Scale::Tdb, tdb.0)
     }
 }
 
 impl OverTdb {
-    // 'TT from TDB: the earliest tick of the table whose TDB is at or after the one asked', in ticks, or 6.
-    pub fn to_tt(self, table: Table, coefficients: &[i64]) -> TtByTable
+    // 'TT from TDB: the earliest tick of the table whose TDB is at or after the one asked', in
+    // ticks, or 6. A TDB that is further than any table's is refused at once, so that nothing
+    // overflows.
+    pub fn to_tt(self, table: Table, coefficients: &[i64]) -> Stepped
         requires { ⌜ Accepted table (now coefficients) ⌝ }
         ensures { λ r. ⌜ r ≡ ttStep table (now (coefficients .entry)) (self .0 .0) ⌝ }
     {
-        let asked = self.0.0;
+        let asked = self.0;
+        if !near(asked) {
+            return Stepped::OutsideTable;
+        }
         let place = earliest_place(table, coefficients, asked);
         if covered(table, coefficients, asked, place) {
-            return TtByTable::Reached(Tt(tick_at(table, place)));
+            let tick = tick_at(table, place);
+            return Stepped::Reached(Epoch {
+                scale: Scale::Tt,
+                tick: tick.0,
+            });
         }
-        TtByTable::OutsideTable
+        Stepped::OutsideTable
     }
 }

@@ -1,5 +1,5 @@
--- No b_k of coefficients within 2^40 comes near 2^60: each is at most 2^40, twice the one before and once the one before that. Hence v stays below 2^62
--- and D below 2^46. Assumes nothing.
+-- No b_k of coefficients within 2^40 comes near 2^60: each is at most 2^40, twice the one before
+-- and once the one before that. Hence v stays below 2^62 and D below 2^46. Assumes nothing.
 use mathlib.Core.Path.{_≡_}
 use mathlib.Core.Logic.{⊎-elim}
 use mathlib.Core.List.{List, [], _∷_}
@@ -54,7 +54,8 @@ last : top 15 .0 ≤ 2 ^ 60
 unfolding top
 last = lit≤ tt
 
-pub b-bounded : (u : ℤ) (cs : List ℤ) (k : ℕ) → natAbs u ≤ scale → isSmall cs ≡ true → length cs ≤ 16 → 1 ≤ k → natAbs (bAt u cs k) ≤ 2 ^ 60
+pub b-bounded : (u : ℤ) (cs : List ℤ) (k : ℕ) → natAbs u ≤ scale → isSmall cs ≡ true → length cs ≤ 16 → 1 ≤ k
+    → natAbs (bAt u cs k) ≤ 2 ^ 60
 unfolding bAt
 b-bounded u cs k hu e few h =
     let l : length (drop k cs) ≤ 15 = simp length-drop (omega arith) in
@@ -62,7 +63,8 @@ b-bounded u cs k hu e few h =
 
 -- ---- what b_k and v are made of, at the turn k
 pub terms : (cs : List ℤ) (place H k : ℕ) → Evaluable cs place H
-    → Terms (uOf (pOf place H) H) (getD cs k (pos 0)) (bAt (uOf (pOf place H) H) cs (suc k)) (bAt (uOf (pOf place H) H) cs (suc (suc k)))
+    → Terms (uOf (pOf place H) H) (getD cs k (pos 0)) (bAt (uOf (pOf place H) H) cs (suc k))
+    (bAt (uOf (pOf place H) H) cs (suc (suc k)))
 terms cs place H k e =
     let long = e .placed .long in
     let u = uOf (pOf place H) H in

@@ -1,5 +1,5 @@
--- The clauses of the definitions, each as an equation, so that a proof opens one clause at a time; and the page's recurrence over k, which they amount to.
--- Assumes nothing.
+-- The clauses of the definitions, each as an equation, so that a proof opens one clause at a time;
+-- and the page's recurrence over k, which they amount to. Assumes nothing.
 use mathlib.Core.Path.{_≡_, refl, _∙_, ap}
 use mathlib.Core.List.{List, [], _∷_}
 use Prim.Native.Nat.{ℕ, zero, suc, _+_, _*_, _^_, _≤_, _<_}
@@ -17,7 +17,8 @@ pub exact-nil : (p : ℤ) (H k : ℕ) → exactFrom p H k [] ≡ pos 0
 unfolding exactFrom
 exact-nil p H k = refl
 
-pub exact-cons : (p : ℤ) (H k : ℕ) (c : ℤ) (cs : List ℤ) → exactFrom p H k (c ∷ cs) ≡ c *ℤ pos (H ^ length cs) *ℤ E p (pos H) k +ℤ exactFrom p H (suc k) cs
+pub exact-cons : (p : ℤ) (H k : ℕ) (c : ℤ) (cs : List ℤ)
+    → exactFrom p H k (c ∷ cs) ≡ c *ℤ pos (H ^ length cs) *ℤ E p (pos H) k +ℤ exactFrom p H (suc k) cs
 unfolding exactFrom
 exact-cons p H k c cs = refl
 
@@ -64,7 +65,16 @@ drop-next (c ∷ cs) (suc k) = drop-next cs k
 
 pub b-turn : (u : ℤ) (cs : List ℤ) (k : ℕ) → k < length cs
     → bAt u cs k ≡ getD cs k (pos 0) +ℤ nearest (u *ℤ bAt u cs (suc k)) (2 ^ 29) -ℤ bAt u cs (suc (suc k))
-b-turn u cs k h = rw (b-at u cs k, b-at u cs (suc k), b-at u cs (suc (suc k)), drop-cons cs k (pos 0) h, b-now u (getD cs k (pos 0)) (drop (suc k) cs), ← drop-next cs (suc k), b-second u (drop (suc k) cs))
+b-turn u cs k h =
+    rw (
+      b-at u cs k,
+      b-at u cs (suc k),
+      b-at u cs (suc (suc k)),
+      drop-cons cs k (pos 0) h,
+      b-now u (getD cs k (pos 0)) (drop (suc k) cs),
+      ← drop-next cs (suc k),
+      b-second u (drop (suc k) cs),
+    )
 
 -- ---- the sums of the tests
 pub weight-nil : (k : ℕ) → weightFrom k [] ≡ 0

@@ -1,5 +1,6 @@
--- The exact sum as its argument and its denominator change: over a common denominator, R·|Σ at a − Σ at b| ≤ weight·R^n·|a − b|, and at the two ends of a
--- granule, where it is the plain and the alternating sum. Each goes by the terms from c_k on, with n for the last place. Assumes nothing.
+-- The exact sum as its argument and its denominator change: over a common denominator, R·|Σ at a −
+-- Σ at b| ≤ weight·R^n·|a − b|, and at the two ends of a granule, where it is the plain and the
+-- alternating sum. Each goes by the terms from c_k on, with n for the last place. Assumes nothing.
 use mathlib.Core.Path.{_≡_, sym, _∙_}
 use mathlib.Core.List.{List, [], _∷_}
 use Prim.Native.Nat.{ℕ, suc, _+_, _*_, _^_, _≤_}
@@ -22,7 +23,8 @@ use Rattle.granule.proofs.Clauses.{exact-nil, exact-cons, exact-is, wei
 term-id : (c w x y e s : ℤ) → c *ℤ (w *ℤ x) *ℤ (y *ℤ e) +ℤ x *ℤ y *ℤ s ≡ x *ℤ y *ℤ (c *ℤ w *ℤ e +ℤ s)
 term-id = all₆ _ (λ ρ. simp quote (ring ρ _ _ tt))
 
-pub sum-scale : (p : ℤ) (H G k : ℕ) (cs : List ℤ) (n : ℕ) → n + 1 ≡ k + length cs → exactFrom (p *ℤ pos G) (H * G) k cs ≡ pos (G ^ n) *ℤ exactFrom p H k cs
+pub sum-scale : (p : ℤ) (H G k : ℕ) (cs : List ℤ) (n : ℕ) → n + 1 ≡ k + length cs
+    → exactFrom (p *ℤ pos G) (H * G) k cs ≡ pos (G ^ n) *ℤ exactFrom p H k cs
 sum-scale p H G k [] n e = rw (exact-nil (p *ℤ pos G) (H * G) k, exact-nil p H k) (sym (*ℤ-zero (pos (G ^ n))))
 sum-scale p H G k (c ∷ cs) n e =
     let m = length cs in
@@ -35,7 +37,8 @@ sum-scale p H G k (c ∷ cs) n e =
 apart-id : (c w x y s t : ℤ) → c *ℤ w *ℤ x +ℤ s -ℤ (c *ℤ w *ℤ y +ℤ t) ≡ c *ℤ w *ℤ (x -ℤ y) +ℤ (s -ℤ t)
 apart-id = all₆ _ (λ ρ. simp quote (ring ρ _ _ tt))
 
-bound : (R k c x y z W d P K : ℕ) → z ≤ c * P * x + y → R * x ≤ k * k * K * d → R * y ≤ W * (P * K) * d → R * z ≤ (k * k * c + W) * (P * K) * d
+bound : (R k c x y z W d P K : ℕ) → z ≤ c * P * x + y → R * x ≤ k * k * K * d → R * y ≤ W * (P * K) * d
+    → R * z ≤ (k * k * c + W) * (P * K) * d
 bound R k c x y z W d P K hz hx hy = omega (arith, mul-le-mul-left R hz, mul-le-mul-left (c * P) hx)
 
 module _ (a b : ℤ) (R : ℕ) (ha : natAbs a ≤ R) (hb : natAbs b ≤ R) where
@@ -48,21 +51,32 @@ module _ (a b : ℤ) (R : ℕ) (ha : natAbs a ≤ R) (hb : natAbs b ≤ R) where
       let ih = rw (f, pow-add R m k) at (sum-moves (suc k) cs n (omega arith)) in
       let x = E a (pos R) k -ℤ E b (pos R) k in
       let y = exactFrom a R (suc k) cs -ℤ exactFrom b R (suc k) cs in
+      let cw = size-* c (pos (R ^ m)) (le-refl (natAbs c)) (le-refl (R ^ m)) in
+      let cwx = size-* (c *ℤ pos (R ^ m)) x cw (le-refl (natAbs x)) in
       let z : natAbs (c *ℤ pos (R ^ m) *ℤ x +ℤ y) ≤ natAbs c * R ^ m * natAbs x + natAbs y =
-      size-+ (c *ℤ pos (R ^ m) *ℤ x) y (size-* (c *ℤ pos (R ^ m)) x (size-* c (pos (R ^ m)) (le-refl (natAbs c)) (le-refl (R ^ m))) (le-refl (natAbs x))) (le-refl (natAbs y)) in
-      rw (exact-cons a R k c cs, exact-cons b R k c cs, weight-cons k c cs, f, pow-add R m k, apart-id c (pos (R ^ m)) (E a (pos R) k) (E b (pos R) k) (exactFrom a R (suc k) cs) (exactFrom b R (suc k) cs))
+      size-+ (c *ℤ pos (R ^ m) *ℤ x) y cwx (le-refl (natAbs y)) in
+      rw (
+        exact-cons a R k c cs,
+        exact-cons b R k c cs,
+        weight-cons k c cs,
+        f,
+        pow-add R m k,
+        apart-id c (pos (R ^ m)) (E a (pos R) k) (E b (pos R) k) (exactFrom a R (suc k) cs) (exactFrom b R (suc k) cs),
+      )
       (bound R k (natAbs c) (natAbs x) (natAbs y) _ (weightFrom (suc k) cs) (natAbs (a -ℤ b)) (R ^ m) (R ^ k) z (E-moves a b R ha hb k) ih)
 
 -- ---- the two ends: s = 1, and s = −1
 end-term : (c w x s : ℤ) → c *ℤ w *ℤ x +ℤ w *ℤ x *ℤ s ≡ w *ℤ x *ℤ (c +ℤ s)
 end-term = all₄ _ (λ ρ. simp quote (ring ρ _ _ tt))
 
-sum-end : (H k : ℕ) (cs : List ℤ) (n : ℕ) → n + 1 ≡ k + length cs → exactFrom (pos H) H k cs ≡ pos (H ^ n) *ℤ plainSum cs
+sum-end : (H k : ℕ) (cs : List ℤ) (n : ℕ) → n + 1 ≡ k + length cs
+    → exactFrom (pos H) H k cs ≡ pos (H ^ n) *ℤ plainSum cs
 sum-end H k [] n e = rw (exact-nil (pos H) H k, plain-nil) (sym (*ℤ-zero (pos (H ^ n))))
 sum-end H k (c ∷ cs) n e =
     let m = length cs in
     let f : n ≡ m + k = omega arith in
-    rw (exact-cons (pos H) H k c cs, plain-cons c cs, sum-end H (suc k) cs n (omega arith), f, pow-add H m k, E-end H k) (end-term c (pos (H ^ m)) (pos (H ^ k)) (plainSum cs))
+    rw (exact-cons (pos H) H k c cs, plain-cons c cs, sum-end H (suc k) cs n (omega arith), f, pow-add H m k, E-end H k)
+    (end-term c (pos (H ^ m)) (pos (H ^ k)) (plainSum cs))
 
 pub exact-end : (H : ℕ) (cs : List ℤ) (n : ℕ) → n + 1 ≡ length cs → exactSum (pos H) H cs ≡ pos (H ^ n) *ℤ plainSum cs
 exact-end H cs n e = exact-is (pos H) H cs ∙ sum-end H 0 cs n (omega arith)
@@ -73,12 +87,15 @@ start-term = all₅ _ (λ ρ. simp quote (ring ρ _ _ tt))
 zeroes : (g w : ℤ) → pos 0 ≡ g *ℤ (w *ℤ pos 0)
 zeroes = all₂ _ (λ ρ. simp (quote, q-con ρ) (ring ρ _ _ tt))
 
-sum-start : (H k : ℕ) (cs : List ℤ) (n : ℕ) → n + 1 ≡ k + length cs → exactFrom (negℤ (pos H)) H k cs ≡ sign k *ℤ (pos (H ^ n) *ℤ alternatingSum cs)
+sum-start : (H k : ℕ) (cs : List ℤ) (n : ℕ) → n + 1 ≡ k + length cs
+    → exactFrom (negℤ (pos H)) H k cs ≡ sign k *ℤ (pos (H ^ n) *ℤ alternatingSum cs)
 sum-start H k [] n e = rw (exact-nil (negℤ (pos H)) H k, alternating-nil) (zeroes (sign k) (pos (H ^ n)))
 sum-start H k (c ∷ cs) n e =
     let m = length cs in
     let f : n ≡ m + k = omega arith in
-    rw (exact-cons (negℤ (pos H)) H k c cs, alternating-cons c cs, sum-start H (suc k) cs n (omega arith), f, pow-add H m k, E-start H k, sign-suc k) (start-term c (pos (H ^ m)) (pos (H ^ k)) (alternatingSum cs) (sign k))
+    rw (exact-cons (negℤ (pos H)) H k c cs, alternating-cons c cs, sum-start H (suc k) cs n (omega arith), f, pow-add H m k, E-start H k, sign-suc k)
+    (start-term c (pos (H ^ m)) (pos (H ^ k)) (alternatingSum cs) (sign k))
 
-pub exact-start : (H : ℕ) (cs : List ℤ) (n : ℕ) → n + 1 ≡ length cs → exactSum (negℤ (pos H)) H cs ≡ pos (H ^ n) *ℤ alternatingSum cs
+pub exact-start : (H : ℕ) (cs : List ℤ) (n : ℕ) → n + 1 ≡ length cs
+    → exactSum (negℤ (pos H)) H cs ≡ pos (H ^ n) *ℤ alternatingSum cs
 exact-start H cs n e = exact-is (negℤ (pos H)) H cs ∙ sum-start H 0 cs n (omega arith) ∙ rw sign-zero (one-* (pos (H ^ n) *ℤ alternatingSum cs))

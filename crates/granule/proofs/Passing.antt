@@ -1,18 +1,15 @@
--- What a test that has passed says, in numbers: 14 of each coefficient, 15 of the weight, 16 of a join. Assumes nothing.
+-- What a test that has passed says, in numbers: 14 of each coefficient, 15 of the weight, 16 of a
+-- join. Assumes nothing.
 use borrow.Author.Tests.{leb-true}
-use mathlib.Core.Path.{_≡_, refl}
-use mathlib.Core.Bool.{Bool, true, false, _&&_}
+use mathlib.Core.Path.{_≡_}
+use mathlib.Core.Bool.{true}
 use mathlib.Core.List.{List, [], _∷_}
 use Prim.Native.Nat.{ℕ, zero, suc, _≤_, zero-le}
-use native.Mathlib.Omega.{arith}
 use lib.Dec.{leb}
 use lib.IntN.{ℤ, pos, _-ℤ_, natAbs}
 use lib.ListN.{length, getD, drop}
+use Rattle.numbers.proofs.Flags.{both}
 use Rattle.granule.specs.Tests.{largest, heaviest, widest, isWithin, isSmall, isLight, isJoined, weightOf, plainSum, alternatingSum, Passed, Meeting}
-
-both : (a b : Bool) → (a && b) ≡ true → (a ≡ true) × (b ≡ true)
-both true b e = (refl, e)
-both false b e = let z : _≡_ {A = ℕ} 0 1 = cc in let never : ⊥ = omega arith in absurd never
 
 pub small-cons : (c : ℤ) (cs : List ℤ) → isSmall (c ∷ cs) ≡ true → (natAbs c ≤ largest) × (isSmall cs ≡ true)
 unfolding isSmall
@@ -37,8 +34,10 @@ unfolding isJoined
 joined-near plain alternating e = leb-true (natAbs (plain -ℤ alternating)) widest e
 
 -- a granule, and a join, of which the tests have been passed
-pub passed-of : (cs : List ℤ) (H : ℕ) → 1 ≤ length cs → length cs ≤ 16 → 1000000000 ≤ H → isLight (weightOf cs) H ≡ true → Passed cs H
+pub passed-of : (cs : List ℤ) (H : ℕ) → 1 ≤ length cs → length cs ≤ 16 → 1000000000 ≤ H → isLight (weightOf cs) H ≡ true
+    → Passed cs H
 passed-of cs H some few long e = let b = light-both (weightOf cs) H e in record { some = some; few = few; long = long; light = b .0; slow = b .1 }
 
-pub meeting-of : (cs next : List ℤ) → length cs ≡ length next → isJoined (plainSum cs) (alternatingSum next) ≡ true → Meeting cs next
+pub meeting-of : (cs next : List ℤ) → length cs ≡ length next → isJoined (plainSum cs) (alternatingSum next) ≡ true
+    → Meeting cs next
 meeting-of cs next same e = record { same = same; near = joined-near (plainSum cs) (alternatingSum next) e }

@@ -1,5 +1,6 @@
--- A rounded product in 64 bits: with d = 2·half and b split at d, every number on the way fits, and the result is the nearest to u·b / d. It is one law for
--- both rounded products of the recurrence, in the words of the code: `read` is what the machine makes of a number. Assumes nothing.
+-- A rounded product in 64 bits: with d = 2·half and b split at d, every number on the way fits, and
+-- the result is the nearest to u·b / d. It is one law for both rounded products of the recurrence,
+-- in the words of the code: `read` is what the machine makes of a number. Assumes nothing.
 use mathlib.Core.Path.{_≡_, _∙_}
 use Prim.Native.Nat.{ℕ, _+_, _*_, _^_, _≤_, _<_}
 use native.Mathlib.Nat.{mul-le-mul-right, le-refl}
@@ -53,7 +54,7 @@ raisedOf u b half = read (productOf u b half) +ℤ pos half
 abbrev resultOf : ℤ → ℤ → ℕ → ℤ
 resultOf u b half = read (coarseOf u b half) +ℤ read (shrZ (read (raisedOf u b half)) (2 * half))
 
-pub record Safe (u b : ℤ) (half : ℕ) : Type 0 where
+pub record SafeProduct (u b : ℤ) (half : ℕ) : Type 0 where
   pub taken : SFits w64 (takenOf b half)
   pub low : SFits w64 (lowOf b half)
   pub coarse : SFits w64 (coarseOf u b half)
@@ -64,7 +65,9 @@ pub record Safe (u b : ℤ) (half : ℕ) : Type 0 where
 
 module _ (u b : ℤ) (half : ℕ) (l : 2 ^ 28 ≤ half) (g : half ≤ 2 ^ 29) (f : Factors u b) where
   high-small : natAbs (high b half) ≤ 2 ^ 31
-  high-small = let s = f .bounded in floor-small b (2 * half) (2 ^ 31) (omega arith) (omega (arith, mul-le-mul-right (2 ^ 32) l))
+  high-small =
+      let s = f .bounded in
+      floor-small b (2 * half) (2 ^ 31) (omega arith) (omega (arith, mul-le-mul-right (2 ^ 32) l))
 
   taken-small : natAbs (taken b half) ≤ 2 ^ 61
   taken-small = omega (arith, size-* (pos (2 * half)) (high b half) (le-refl (2 * half)) high-small, mul-le-mul-right (2 ^ 31) g)
@@ -137,10 +140,18 @@ module _ (u b : ℤ) (half : ℕ) (l : 2 ^ 28 ≤ half) (g : half ≤ 2 ^ 29) (f
   raised-is = rw (product-is, read-is (u *ℤ low b half) product-kept)
 
   result-is : resultOf u b half ≡ u *ℤ high b half +ℤ fine u b half
-  result-is = rw (coarse-is, raised-is, read-is (u *ℤ high b half) coarse-kept, read-is (raised u b half) raised-kept, shr-floor (raised u b half) (2 * half), read-is (fine u b half) fine-kept)
+  result-is =
+      rw (
+        coarse-is,
+        raised-is,
+        read-is (u *ℤ high b half) coarse-kept,
+        read-is (raised u b half) raised-kept,
+        shr-floor (raised u b half) (2 * half),
+        read-is (fine u b half) fine-kept,
+      )
 
-  pub safe : Safe u b half
-  safe = record {
+  pub safe-product : SafeProduct u b half
+  safe-product = record {
     taken = rw taken-is taken-kept;
     low = rw low-is low-kept;
     coarse = rw coarse-is coarse-kept;

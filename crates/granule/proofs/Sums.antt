@@ -1,4 +1,5 @@
--- The sums of the tests as loops from the last coefficient down make them, and how large they can be, for coefficients within 2^40. Assumes nothing.
+-- The sums of the tests as loops from the last coefficient down make them, and how large they can
+-- be, for coefficients within 2^40. Assumes nothing.
 use mathlib.Core.Path.{_≡_, sym, _∙_, ap}
 use mathlib.Core.Bool.{true}
 use mathlib.Core.List.{List, [], _∷_}
@@ -17,7 +18,8 @@ use Rattle.granule.proofs.Clauses.{weight-nil, weight-cons, plain-nil, 
 use Rattle.granule.proofs.Downward.{drop-past, drop-back}
 use Rattle.granule.proofs.Passing.{small-cons, small-drop}
 
--- ---- the plain and the alternating sum: each coefficient is joined to the sum of the later ones by + or by −
+-- ---- the plain and the alternating sum: each coefficient is joined to the sum of the later ones
+-- by + or by −
 pub record Joins (sum : List ℤ → ℤ) (op : ℤ → ℤ → ℤ) : Type 0 where
   pub none : sum [] ≡ pos 0
   pub one : (c : ℤ) (cs : List ℤ) → sum (c ∷ cs) ≡ op c (sum cs)
@@ -32,7 +34,9 @@ alternating-joins = record { none = alternating-nil; one = alternating-cons; siz
 module _ (sum : List ℤ → ℤ) (op : ℤ → ℤ → ℤ) (joins : Joins sum op) where
   sum-small : (cs : List ℤ) → isSmall cs ≡ true → natAbs (sum cs) ≤ length cs * largest
   sum-small [] e = rw (joins .none) (omega arith)
-  sum-small (c ∷ cs) e = let s = small-cons c cs e in rw (joins .one c cs) (omega (arith, joins .size c (sum cs), sum-small cs (s .1)))
+  sum-small (c ∷ cs) e =
+      let s = small-cons c cs e in
+      rw (joins .one c cs) (omega (arith, joins .size c (sum cs), sum-small cs (s .1)))
 
   sum-fits : (cs : List ℤ) (k : ℕ) → Summable cs → SFits w64 (sum (drop k cs))
   sum-fits cs k s =
@@ -44,11 +48,15 @@ module _ (sum : List ℤ → ℤ) (op : ℤ → ℤ → ℤ) (joins : Joins sum 
   pub sum-begins : (cs : List ℤ) → pos 0 ≡ sum (drop (length cs) cs)
   sum-begins cs = sym (joins .none) ∙ ap sum (sym (drop-past cs (length cs) (le-refl (length cs))))
 
-  pub sum-turns : (cs : List ℤ) (k : ℕ) (s : ℤ) → Summable cs → 0 < k → k ≤ length cs → SFits w64 (getD cs (k - 1) (pos 0)) → s ≡ sum (drop k cs)
-      → SFits w64 (op (read (getD cs (k - 1) (pos 0))) s) × (read (op (read (getD cs (k - 1) (pos 0))) s) ≡ sum (drop (k - 1) cs))
+  pub sum-turns : (cs : List ℤ) (k : ℕ) (s : ℤ) → Summable cs → 0 < k → k ≤ length cs
+      → SFits w64 (getD cs (k - 1) (pos 0)) → s ≡ sum (drop k cs)
+      → let next = op (read (read (getD cs (k - 1) (pos 0)))) (read s) in SFits w64 next
+      × (read next ≡ sum (drop (k - 1) cs))
   sum-turns cs k s summable h l f e =
-      let turn : op (read (getD cs (k - 1) (pos 0))) s ≡ sum (drop (k - 1) cs) =
-      rw (read-is _ f, e) (sym (ap sum (drop-back cs k h l) ∙ joins .one (getD cs (k - 1) (pos 0)) (drop k cs))) in
+      let c = getD cs (k - 1) (pos 0) in
+      let s-is : read s ≡ sum (drop k cs) = rw e (read-is _ (sum-fits cs k summable)) in
+      let turn : op (read (read c)) (read s) ≡ sum (drop (k - 1) cs) =
+      rw (read-is c f, read-is c f, s-is) (sym (ap sum (drop-back cs k h l) ∙ joins .one c (drop k cs))) in
       let fit = sum-fits cs (k - 1) summable in
       (rw turn fit, rw turn (read-is _ fit))
 
@@ -57,7 +65,8 @@ module _ (sum : List ℤ → ℤ) (op : ℤ → ℤ → ℤ) (joins : Joins sum 
 pub term-small : (k x : ℕ) → k ≤ 15 → x ≤ largest → (k * k ≤ 225) × (k * k * x ≤ 225 * largest)
 term-small k x h l = let s = mul-le-mul {n₂ = 15} {m₂ = 15} h h in (s, mul-le-mul {n₂ = 225} {m₂ = largest} s l)
 
-weight-small : (k : ℕ) (cs : List ℤ) → isSmall cs ≡ true → k + length cs ≤ 16 → weightFrom k cs ≤ length cs * (225 * largest)
+weight-small : (k : ℕ) (cs : List ℤ) → isSmall cs ≡ true → k + length cs ≤ 16
+    → weightFrom k cs ≤ length cs * (225 * largest)
 weight-small k [] e h = rw (weight-nil k) (omega arith)
 weight-small k (c ∷ cs) e h =
     let s = small-cons c cs e in

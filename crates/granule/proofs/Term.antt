@@ -1,5 +1,5 @@
--- c + q − b₂, for a coefficient c and a rounded product q: the two sums fit 64 bits. It is one law for b_k and for v, in the words of the code.
--- Assumes nothing.
+-- c + q − b₂, for a coefficient c and a rounded product q: the two sums fit 64 bits. It is one law
+-- for b_k and for v, in the words of the code. Assumes nothing.
 use mathlib.Core.Path.{_≡_}
 use Prim.Native.Nat.{ℕ, _+_, _*_, _^_, _≤_, _<_}
 use native.Mathlib.Nat.{mul-le-mul-right}
@@ -19,7 +19,7 @@ sumOf c q = read c +ℤ read q
 abbrev pub termOf : ℤ → ℤ → ℤ → ℤ
 termOf c q b₂ = read (sumOf c q) -ℤ read b₂
 
-pub record Safe (c q b₂ : ℤ) : Type 0 where
+pub record SafeTerm (c q b₂ : ℤ) : Type 0 where
   pub sum : SFits w64 (sumOf c q)
   pub term : SFits w64 (termOf c q b₂)
   pub is : read (termOf c q b₂) ≡ c +ℤ q -ℤ b₂
@@ -53,8 +53,8 @@ module _ (u c b₁ b₂ q : ℤ) (d : ℕ) (l : 2 ^ 29 ≤ d) (t : Terms u c b�
   term-is : termOf c q b₂ ≡ c +ℤ q -ℤ b₂
   term-is = rw (c-is, q-is, b-is, read-is (c +ℤ q) sum-fits)
 
-  pub safe : Safe c q b₂
-  safe = record {
+  pub safe-term : SafeTerm c q b₂
+  safe-term = record {
     sum = rw (c-is, q-is) sum-fits;
     term = rw term-is (fits (c +ℤ q -ℤ b₂) term-small);
     is = rw term-is (read-is (c +ℤ q -ℤ b₂) (fits (c +ℤ q -ℤ b₂) term-small));

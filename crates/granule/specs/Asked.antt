@@ -1,4 +1,5 @@
--- What the inner functions ask of their callers. All of it follows from the bounds of 01 and from test 14; without it the numbers would not fit 64 bits.
+-- What the inner functions ask of their callers. All of it follows from the bounds of 01 and from
+-- test 14; without it the numbers would not fit 64 bits.
 use mathlib.Core.Path.{_≡_}
 use mathlib.Core.Bool.{true}
 use mathlib.Core.List.{List}
@@ -9,12 +10,13 @@ use Rattle.granule.specs.Rule.{scale}
 use Rattle.granule.specs.Tests.{largest, isSmall}
 
 -- 'H from 10^9 to 2^50', and a place of the granule
-pub record Placed (place H : ℕ) : Type 0 where
+pub record InGranule (place H : ℕ) : Type 0 where
   pub long : 1000000000 ≤ H
   pub short : H ≤ 2 ^ 50
   pub inside : place ≤ H
 
--- the factors of a rounded product: u is 2^30·s with s from −1 to 1, and no b_k of coefficients up to 2^40 comes near 2^60
+-- the factors of a rounded product: u is 2^30·s with s from −1 to 1, and no b_k of coefficients up
+-- to 2^40 comes near 2^60
 pub record Factors (u b : ℤ) : Type 0 where
   pub argument : natAbs u ≤ scale
   pub bounded : natAbs b ≤ 2 ^ 60
@@ -34,4 +36,4 @@ pub record Summable (cs : List ℤ) : Type 0 where
 pub record Evaluable (cs : List ℤ) (place H : ℕ) : Type 0 where
   pub some : 1 ≤ length cs
   pub summable : Summable cs
-  pub placed : Placed place H
+  pub placed : InGranule place H

@@ -1,5 +1,5 @@
--- The granule rule of 01, for one granule: its coefficients c_0, .., c_n are a list, c_0 first, and it is H ticks long. A tick stands in it at the place
--- t − start, from 0 to H.
+-- The granule rule of 01, for one granule: its coefficients c_0, .., c_n are a list, c_0 first, and
+-- it is H ticks long. A tick stands in it at the place t − start, from 0 to H.
 use mathlib.Core.List.{List, [], _∷_}
 use Prim.Native.Nat.{ℕ, suc, _^_}
 use lib.IntN.{ℤ, pos, _+ℤ_, _-ℤ_, _*ℤ_}
@@ -35,7 +35,8 @@ unfoldable pub uOf : ℤ → ℕ → ℤ
 uOf p H = nearest (pos scale *ℤ p) H
 
 -- b_k and b_(k+1), from u and c_k, .., c_n:
--- 'With b_(n+1) = b_(n+2) = 0, for k from n down to 1: b_k = c_k + rounded(u·b_(k+1)/2^29) − b_(k+2)'
+-- 'With b_(n+1) = b_(n+2) = 0, for k from n down to 1: b_k = c_k + rounded(u·b_(k+1)/2^29) −
+-- b_(k+2)'
 unfoldable pub bFrom : ℤ → List ℤ → ℤ × ℤ
 bFrom u [] = (pos 0, pos 0)
 bFrom u (c ∷ cs) = (c +ℤ nearest (u *ℤ bFrom u cs .0) (2 ^ 29) -ℤ bFrom u cs .1, bFrom u cs .0)

@@ -1,4 +1,5 @@
--- The tests of one granule and of a join, and what they leave. A granule's coefficients c_0, .., c_n are a list, c_0 first.
+-- The tests of one granule and of a join, and what they leave. A granule's coefficients c_0, ..,
+-- c_n are a list, c_0 first.
 use mathlib.Core.Path.{_≡_}
 use mathlib.Core.Bool.{Bool, true, _&&_}
 use mathlib.Core.List.{List, [], _∷_}
@@ -46,7 +47,8 @@ heaviest = 2 ^ 40
 unfoldable pub isLight : ℕ → ℕ → Bool
 isLight weight H = leb weight heaviest && leb weight H
 
--- 16: 'at a join, plain sum of c_k and alternating sum of the next granule differ by over 1024 units'
+-- 16: 'at a join, plain sum of c_k and alternating sum of the next granule differ by over 1024
+-- units'
 abbrev pub widest : ℕ
 widest = 1024
 

@@ -1,5 +1,6 @@
-// Runs the proved code on the page's granule of n = 1, H = 10^9, c_0 = 0, c_1 = 65536, and prints each place with its D: the value that the page gives and
-// does not mark to be proved (TT 250000000 is TDB 250000000), those that it marks, and the neighbours of the ticks where D changes.
+// Runs the proved code on the page's granule of n = 1, H = 10^9, c_0 = 0, c_1 = 65536, and prints
+// each place with its D: the value that the page gives and does not mark to be proved (TT 250000000
+// is TDB 250000000), those that it marks, and the neighbours of the ticks where D changes.
 use granule::delay;
 use granule::value;
 use libc::STDOUT_FILENO;

@@ -6,5 +6,11 @@ use Rattle.hosts.specs.declared.written.DateAnswer.{DateAnswer}
 
 -- 'every other field is 0': the double whose bits are all 0
 abbrev pub dateAnswer : Written → DateAnswer
-dateAnswer (W.Date date) = record { number = 0; place = 0; first = date .first; second = date .second }
-dateAnswer (W.Refused refusal) = record { number = refusal .number; place = refusal .place; first = ofBits binary64 0; second = ofBits binary64 0 }
+dateAnswer (W.Date date) =
+    record { number = 0; place = 0; first = date .first; second = date .second }
+dateAnswer (W.Refused refusal) = record {
+  number = refusal .number;
+  place = refusal .place;
+  first = ofBits binary64 0;
+  second = ofBits binary64 0;
+}

@@ -13,6 +13,10 @@ pub record TableRead (b : List ℕ) (d d' : List ℤ) (r : TableAnswer) : Type 0
   pub answer : r ≡ tableAnswer (readJudged b (length d))
   pub list : d' ≡ readInto b d
 
-pub record TableWritten (start len : ℤ) (count degree : ℕ) (c : List ℤ) (image image' : List ℕ) (r : Answer) : Type 0 where
-  pub answer : r ≡ doneAnswer (writeJudged (tableFrom (record { 0 = start }) len count degree) c (length image))
+pub record TableWritten (start len : ℤ) (count degree : ℕ) (c : List ℤ) (image image' : List ℕ)
+    (r : Answer) : Type 0 where
+  pub answer :
+      r
+      ≡ doneAnswer
+      (writeJudged (tableFrom (record { 0 = start }) len count degree) c (length image))
   pub buffer : image' ≡ writeInto (tableFrom (record { 0 = start }) len count degree) c image

@@ -1,6 +1,7 @@
-// What the exported functions answer. Number 0 is accepted; else number and place are the refusal's, and every other field is 0.
+// What the exported functions answer. Number 0 is accepted; else number and place are the
+// refusal's, and every other field is 0.
 use blocks::answer::Judged;
-use scales::answer::Refusal;
+use scales::refusal::Refusal;
 ghost use mathlib.Core.Path.{_≡_};
 ghost use Rattle.hosts.specs.Answers.{tableAnswer, doneAnswer, refusedAnswer};
 

@@ -1,10 +1,10 @@
 // Conversions: of ticks, of a date, of seconds past J2000, and a batch.
 use crate::answers::Answer;
 use crate::answers::refused_by;
+use batch::batch;
 use dates::reading::Reading;
-use desk::batch::Batched;
-use desk::batch::batch;
 use desk::conversion::convert;
+use entries::batched::Batched;
 ghost use mathlib.Core.Path.{_≡_};
 ghost use Rattle.dates.specs.declared.reading.Reading.the-variants.{TwoPart, SinceJ2000, Ticks};
 ghost use Rattle.desk.specs.Conversion.{convertOf};
@@ -48,7 +48,8 @@ fn batch_answer(batched: Batched) -> Answer
     }
 }
 
-// Ticks past Julian date 2443144.5003725 in the scale of the first code, to ticks in that of the second.
+// Ticks past Julian date 2443144.5003725 in the scale of the first code, to ticks in that of the
+// second.
 #[no_mangle]
 pub extern "C" fn colliedash_convert_ticks(from: u32, to: u32, tick: i64, table: &[u8]) -> Answer
     ensures { λ r. ⌜ r ≡ convertedAnswer (convertOf from to (Ticks tick) (now (table .entry))) ⌝ }
@@ -65,7 +66,8 @@ pub extern "C" fn colliedash_convert_date(
     second: f64,
     table: &[u8],
 ) -> Answer
-    ensures { λ r. ⌜ r ≡ convertedAnswer (convertOf from to (TwoPart first second) (now (table .entry))) ⌝ }
+    ensures { λ r. ⌜
+        r ≡ convertedAnswer (convertOf from to (TwoPart first second) (now (table .entry))) ⌝ }
 {
     converted_answer(convert(from, to, Reading::TwoPart(first, second), table))
 }
@@ -73,12 +75,14 @@ pub extern "C" fn colliedash_convert_date(
 // The same of seconds past J2000.
 #[no_mangle]
 pub extern "C" fn colliedash_convert_j2000(from: u32, to: u32, seconds: f64, table: &[u8]) -> Answer
-    ensures { λ r. ⌜ r ≡ convertedAnswer (convertOf from to (SinceJ2000 seconds) (now (table .entry))) ⌝ }
+    ensures { λ r. ⌜
+        r ≡ convertedAnswer (convertOf from to (SinceJ2000 seconds) (now (table .entry))) ⌝ }
 {
     converted_answer(convert(from, to, Reading::SinceJ2000(seconds), table))
 }
 
-// A list of ticks into a second list of equal length: all of them, or a refusal that writes nothing.
+// A list of ticks into a second list of equal length: all of them, or a refusal that writes
+// nothing.
 #[no_mangle]
 pub extern "C" fn colliedash_batch(
     from: u32,
@@ -87,7 +91,9 @@ pub extern "C" fn colliedash_batch(
     answers: &mut [i64],
     table: &[u8],
 ) -> Answer
-    ensures { λ r. ⌜ BatchConverted from to (now (ticks .entry)) (now (answers .entry)) (now (answers .exit)) (now (table .entry)) r ⌝ }
+    ensures { λ r. ⌜
+        BatchConverted from to (now (ticks .entry)) (now (answers .entry)) (now (answers .exit))
+        (now (table .entry)) r ⌝ }
 {
     batch_answer(batch(from, to, ticks, answers, table))
 }

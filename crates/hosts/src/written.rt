@@ -32,7 +32,8 @@ fn date_answer(written: Written) -> DateAnswer
     }
 }
 
-// A tick as a date: the last Julian date ending in .5 not after it, and the part of a day since then; or refusal 4.
+// A tick as a date: the last Julian date ending in .5 not after it, and the part of a day since
+// then; or refusal 4.
 #[no_mangle]
 pub extern "C" fn colliedash_write_date(tick: i64) -> DateAnswer
     ensures { λ r. ⌜ r ≡ dateAnswer (writtenOf tick) ⌝ }

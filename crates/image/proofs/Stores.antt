@@ -11,19 +11,20 @@ use lib.IntN.{ℤ}
 use lib.ListN.{length, getD, set, length-set}
 use lib.Seq.{getD-set-same, getD-set-other}
 use Rattle.image.specs.declared.table.Table.{Table}
-use Rattle.image.specs.Words.{byteOf, from}
-use Rattle.image.specs.Check.{checkA, checkB}
+use Rattle.words.specs.Words.{byteOf, from}
+use Rattle.words.specs.Check.{checkA, checkB}
 use Rattle.image.specs.Image.{bodyByte, blockByte, imageByte}
-use Rattle.image.specs.Asked.{Put, Sealed}
-use Rattle.image.proofs.Sums.{checkA-same, checkB-same}
+use Rattle.image.specs.Asked.{Stores, Sealed}
+use Rattle.words.proofs.Sums.{checkA-same, checkB-same}
 
 pub not-same : {a b : ℕ} → a < b → a ≡ b → ⊥
 not-same h e = omega arith
 
-pub put-none : (f : ℕ → ℕ) (at : ℕ) (b : List ℕ) → Put f at 0 b b
+pub put-none : (f : ℕ → ℕ) (at : ℕ) (b : List ℕ) → Stores f at 0 b b
 put-none f at b = record { long = refl; below = λ i h. refl; each = λ j h. absurd (not-suc-le-zero h) }
 
-pub put-more : (f : ℕ → ℕ) (at j x : ℕ) (b₀ b : List ℕ) → Put f at j b₀ b → at + j < length b → x ≡ f j → Put f at (j + 1) b₀ (set b (at + j) x)
+pub put-more : (f : ℕ → ℕ) (at j x : ℕ) (b₀ b : List ℕ) → Stores f at j b₀ b → at + j < length b → x ≡ f j
+    → Stores f at (j + 1) b₀ (set b (at + j) x)
 put-more f at j x b₀ b p h e =
     record {
       long = length-set b (at + j) x ∙ p .long;
@@ -34,7 +35,8 @@ put-more f at j x b₀ b p h e =
     }
 
 -- ---- four stores
-module _ (b : List ℕ) (at x y : ℕ) (h : at + 512 ≤ length b) (ex : x ≡ checkA (from b at)) (ey : y ≡ checkB (from b at)) where
+module _ (b : List ℕ) (at x y : ℕ) (h : at + 512 ≤ length b) (ex : x ≡ checkA (from b at))
+    (ey : y ≡ checkB (from b at)) where
   abbrev l1 : List ℕ
   l1 = set b (at + 508) (x % 256)
 
@@ -57,7 +59,9 @@ module _ (b : List ℕ) (at x y : ℕ) (h : at + 512 ≤ length b) (ex : x ≡ c
   seal-is =
       record {
         long = simp length-set;
-        below = λ i g. off l3 i (at + 511) _ (omega arith) ∙ off l2 i (at + 510) _ (omega arith) ∙ off l1 i (at + 509) _ (omega arith) ∙ off b i (at + 508) _ (omega arith);
+        below =
+            λ i g. off l3 i (at + 511) _ (omega arith) ∙ off l2 i (at + 510) _ (omega arith) ∙ off l1 i (at + 509) _ (omega arith)
+            ∙ off b i (at + 508) _ (omega arith);
         a0 =
             off l3 (at + 508) (at + 511) _ (omega arith)
             ∙ off l2 (at + 508) (at + 510) _ (omega arith)
@@ -75,8 +79,10 @@ module _ (b : List ℕ) (at x y : ℕ) (h : at + 512 ≤ length b) (ex : x ≡ c
       }
 
 -- ---- a block: its 508 bytes, then its check words
-pub four : (f : ℕ → ℕ) (b : List ℕ) (at : ℕ) → ((j : ℕ) → j < 508 → getD b (at + j) 0 ≡ f j) → getD b (at + 508) 0 ≡ byteOf (checkA f) 0
-    → getD b (at + 509) 0 ≡ byteOf (checkA f) 1 → getD b (at + 510) 0 ≡ byteOf (checkB f) 0 → getD b (at + 511) 0 ≡ byteOf (checkB f) 1 → (j : ℕ) → j < 512
+pub four : (f : ℕ → ℕ) (b : List ℕ) (at : ℕ) → ((j : ℕ) → j < 508 → getD b (at + j) 0 ≡ f j)
+    → getD b (at + 508) 0 ≡ byteOf (checkA f) 0
+    → getD b (at + 509) 0 ≡ byteOf (checkA f) 1 → getD b (at + 510) 0 ≡ byteOf (checkB f) 0
+    → getD b (at + 511) 0 ≡ byteOf (checkB f) 1 → (j : ℕ) → j < 512
     → getD b (at + j) 0 ≡ blockByte f j
 unfolding blockByte
 four f b at e p q r s j h = go (decLt j 508) (decLt j 509) (decLt j 510) (decLt j 511)
@@ -88,7 +94,8 @@ four f b at e p q r s j h = go (decLt j 508) (decLt j 509) (decLt j 510) (decLt 
     go (no a) (no c) (no d) (yes g) = let x : j ≡ 510 = omega arith in rw x r
     go (no a) (no c) (no d) (no g) = let x : j ≡ 511 = omega arith in rw x s
 
-pub put-sealed : (f : ℕ → ℕ) (at : ℕ) (b₀ b₁ b₂ : List ℕ) → Put f at 508 b₀ b₁ → Sealed at b₁ b₂ → Put (blockByte f) at 512 b₀ b₂
+pub put-sealed : (f : ℕ → ℕ) (at : ℕ) (b₀ b₁ b₂ : List ℕ) → Stores f at 508 b₀ b₁ → Sealed at b₁ b₂
+    → Stores (blockByte f) at 512 b₀ b₂
 put-sealed f at b₀ b₁ b₂ p s =
     let a = checkA-same (from b₁ at) f (p .each) in
     let b = checkB-same (from b₁ at) f (p .each) in
@@ -101,8 +108,10 @@ put-sealed f at b₀ b₁ b₂ p s =
     }
 
 -- ---- the image, a block more
-pub image-more : (t : Table) (c : List ℤ) (k : ℕ) (b b' : List ℕ) → ((i : ℕ) → i < k * 512 → getD b i 0 ≡ imageByte t c i)
-    → Put (blockByte (bodyByte t c k)) (k * 512) 512 b b' → (i : ℕ) → i < (k + 1) * 512 → getD b' i 0 ≡ imageByte t c i
+pub image-more : (t : Table) (c : List ℤ) (k : ℕ) (b b' : List ℕ)
+    → ((i : ℕ) → i < k * 512 → getD b i 0 ≡ imageByte t c i)
+    → Stores (blockByte (bodyByte t c k)) (k * 512) 512 b b' → (i : ℕ) → i < (k + 1) * 512
+    → getD b' i 0 ≡ imageByte t c i
 unfolding imageByte
 image-more t c k b b' e p i h = go (decLt i (k * 512))
   where

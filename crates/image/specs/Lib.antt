@@ -1,5 +1,3 @@
-pub mod Words
-pub mod Check
-pub mod Form
+pub mod Bounds
 pub mod Image
 pub mod Asked

@@ -1,8 +1,6 @@
-// A table as bytes: words in little-endian order, the check of a block, the form of each byte, a table's bytes put and its numbers taken. What is right is
-// judged elsewhere: nothing here refuses.
-pub mod check;
-pub mod form;
+// A table's own numbers and their bounds, its bytes put, and its numbers and coefficients taken out
+// of bytes. Bytes are judged elsewhere: nothing here refuses.
+pub mod bounds;
 pub mod put;
 pub mod table;
 pub mod take;
-mod words;

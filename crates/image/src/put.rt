@@ -1,21 +1,23 @@
 // A table's bytes, put into a buffer.
-use crate::check::check_of;
-use crate::form::fixed_byte;
-use crate::form::is_free;
 use crate::table::Table;
-use crate::words::bits_of;
-use crate::words::byte_of;
+use form::fixed_byte;
+use form::is_free;
+use words::bits_of;
+use words::byte_of;
+use words::check::check_of;
 ghost use mathlib.Core.Path.{_≡_};
 ghost use mathlib.Core.Bool.{true};
 ghost use Prim.Native.Nat.{_+_, _*_, _≤_, _<_};
 ghost use lib.ListN.{length};
-ghost use Rattle.image.specs.Form.{isNumber};
-ghost use Rattle.image.specs.Image.{bitsOf, numberByte, coefficientByte, bodyByte, blockByte, blocksOf, imageOf};
-ghost use Rattle.image.specs.Asked.{Holding, Ready, Fitting, Put, Sealed};
+ghost use Rattle.form.specs.Form.{blocksOf, isNumber};
+ghost use Rattle.form.specs.Few.{mostDegree};
+ghost use Rattle.image.specs.Image.{bitsOf, numberByte, coefficientByte, bodyByte};
+ghost use Rattle.image.specs.Image.{blockByte, imageOf};
+ghost use Rattle.image.specs.Asked.{Holding, WholeTable, Fitting, Stores, Sealed};
 
 // A byte of one of the table's numbers.
 fn number_byte(table: Table, j: usize) -> u8
-    requires { ⌜ (isNumber j ≡ true) × (table .degree ≤ 15) ⌝ }
+    requires { ⌜ (isNumber j ≡ true) × (table .degree ≤ mostDegree) ⌝ }
     ensures { λ r. ⌜ r ≡ numberByte table j ⌝ }
 {
     if j == 2 {
@@ -46,7 +48,7 @@ fn coefficient_byte(coefficients: &[i64], count: usize, degree: usize, k: usize,
 
 // Byte j of block k, below the check.
 fn body_byte(table: Table, coefficients: &[i64], k: usize, j: usize) -> u8
-    requires { ⌜ Ready table (now coefficients) × (k < blocksOf (table .count)) × (j < 508) ⌝ }
+    requires { ⌜ WholeTable table (now coefficients) × (k < blocksOf (table .count)) × (j < 508) ⌝ }
     ensures { λ r. ⌜ r ≡ bodyByte table (now (coefficients .entry)) k j ⌝ }
 {
     let count = table.count as usize;
@@ -63,7 +65,8 @@ fn body_byte(table: Table, coefficients: &[i64], k: usize, j: usize) -> u8
 // Bytes 0 to 507 of block k.
 fn put_body(image: &mut [u8], table: Table, coefficients: &[i64], k: usize)
     requires { ⌜ Fitting table (now coefficients) (now image) × (k < blocksOf (table .count)) ⌝ }
-    ensures { λ _. ⌜ Put (bodyByte table (now (coefficients .entry)) k) (k * 512) 508 (now (image .entry)) (now (image .exit)) ⌝ }
+    ensures { λ _. ⌜ Stores (bodyByte table (now (coefficients .entry)) k) (k * 512) 508
+        (now (image .entry)) (now (image .exit)) ⌝ }
 {
     for j in 0..508 {
         let byte = body_byte(table, coefficients, k, j);
@@ -88,7 +91,8 @@ fn seal(image: &mut [u8], at: usize)
 // All of block k.
 fn put_block(image: &mut [u8], table: Table, coefficients: &[i64], k: usize)
     requires { ⌜ Fitting table (now coefficients) (now image) × (k < blocksOf (table .count)) ⌝ }
-    ensures { λ _. ⌜ Put (blockByte (bodyByte table (now (coefficients .entry)) k)) (k * 512) 512 (now (image .entry)) (now (image .exit)) ⌝ }
+    ensures { λ _. ⌜ Stores (blockByte (bodyByte table (now (coefficients .entry)) k))
+        (k * 512) 512 (now (image .entry)) (now (image .exit)) ⌝ }
 {
     put_body(image, table, coefficients, k);
     seal(image, k * 512);

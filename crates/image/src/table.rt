@@ -1,7 +1,7 @@
 // A table's own numbers, and those that bytes hold.
-use crate::words::number_at;
-use crate::words::quad_at;
-use scales::steps::Tt;
+use linear::steps::Tt;
+use words::number_at;
+use words::quad_at;
 ghost use mathlib.Core.Path.{_≡_};
 ghost use Prim.Native.Nat.{_≤_};
 ghost use lib.ListN.{length};

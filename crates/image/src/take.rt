@@ -1,7 +1,7 @@
 // The coefficients that bytes hold.
-use crate::words::number_at;
+use words::number_at;
 ghost use mathlib.Core.Path.{_≡_};
-ghost use Rattle.image.specs.Image.{storedOf, coefficientsOf};
+ghost use Rattle.image.specs.Image.{storedOf, coefficientsStored};
 ghost use Rattle.image.specs.Asked.{Stored, Taking};
 
 // The sixteen coefficients stored for a granule.
@@ -23,7 +23,8 @@ pub fn stored(bytes: &[u8], granule: usize) -> [i64; 16]
 // The coefficients of every granule, into a list of exactly that size.
 pub fn take_coefficients(bytes: &[u8], count: usize, degree: usize, coefficients: &mut [i64])
     requires { ⌜ Taking (now bytes) count degree (now coefficients) ⌝ }
-    ensures { λ _. ⌜ now (coefficients .exit) ≡ coefficientsOf (now (bytes .entry)) count degree ⌝ }
+    ensures { λ _. ⌜ now (coefficients .exit) ≡ coefficientsStored
+        (now (bytes .entry)) count degree ⌝ }
 {
     let mut i = 0;
     while i < coefficients.len() {

@@ -1,26 +1,44 @@
--- A line's number as a code: 0 to 6 are handed on, and any other is one that the desk refuses with 1. Assumes nothing.
-use borrow.Author.Tests.{le-leb, lt-leb}
+-- A line's number as a code: those that fit are handed on, and the desk refuses every other, and
+-- each that is above 6, with 1. Assumes nothing.
+use borrow.Author.Tests.{lt-ltb, le-ltb, lt-leb}
 use mathlib.Core.Path.{_≡_, refl, ap}
-use Prim.Native.Nat.{ℕ, _≤_, zero-le}
+use mathlib.Core.Logic.{_⊎_, inl, inr}
+use Prim.Native.Nat.{ℕ, _<_, zero-le}
+use native.Mathlib.Decide.{decLt}
+use native.Mathlib.Omega.{arith}
 use lib.Dec.{ltb→lt}
 use lib.IntN.{ℤ, pos, negsuc}
 use lib.Signed.{_<ℤ_, clashℤ}
 use Rattle.numbers.proofs.Order.{le-pos}
+use Rattle.scales.specs.declared.scale.Purpose.the-variants as P
 use Rattle.scales.specs.Scales.{scaleOf}
 use Rattle.scales.specs.declared.scale.Named.the-variants.{Refused}
-use Rattle.line.specs.Lines.{codeOf}
+use Rattle.line.specs.Lines.{codeOf, noCode}
 
-pub code-inside : (n : ℕ) → n ≤ 6 → codeOf (pos n) ≡ n
-code-inside n h = rw (le-leb n 6 h)
+pub code-inside : (n : ℕ) → n < noCode → codeOf (pos n) ≡ n
+code-inside n h = rw (lt-ltb n noCode h)
 
-pub code-below : (z : ℤ) → z <ℤ pos 0 → codeOf z ≡ 7
+pub code-below : (z : ℤ) → z <ℤ pos 0 → codeOf z ≡ noCode
 code-below (pos n) h = clashℤ h (le-pos 0 n zero-le)
 code-below (negsuc n) h = refl
 
-pub code-above : (z : ℤ) → pos 6 <ℤ z → codeOf z ≡ 7
-code-above (pos n) h = rw (lt-leb n 6 (ltb→lt 6 n (h .lt)))
+pub code-above : (z : ℤ) → pos 4294967294 <ℤ z → codeOf z ≡ noCode
+code-above (pos n) h = rw (le-ltb n noCode (ltb→lt 4294967294 n (h .lt)))
 code-above (negsuc n) h = refl
 
+-- a number above 6 stays above 6
+six-below : (n : ℕ) → 6 < n → 6 < codeOf (pos n)
+six-below n h = elim (decLt n noCode) [
+  | yes l ↦ rw (lt-ltb n noCode l) h
+  | no l ↦ rw (le-ltb n noCode (omega (arith, l))) (omega arith)
+]
+
+refused-six : (code place : ℕ) → 6 < code → scaleOf P.Line code place ≡ Refused (record { number = 1; place = place })
+refused-six code place h = rw (lt-leb code 6 h)
+
 -- 'A code outside 0..6 is refusal 1'
-pub refused-outside : (z : ℤ) (place : ℕ) → codeOf z ≡ 7 → scaleOf (codeOf z) place ≡ Refused (record { number = 1; place = place })
-refused-outside z place e = ap (λ (n : ℕ). scaleOf n place) e
+pub refused-outside : (z : ℤ) (place : ℕ) → (z <ℤ pos 0) ⊎ (pos 6 <ℤ z)
+    → scaleOf P.Line (codeOf z) place ≡ Refused (record { number = 1; place = place })
+refused-outside z place (inl below) = ap (λ (n : ℕ). scaleOf P.Line n place) (code-below z below)
+refused-outside (pos n) place (inr above) = refused-six (codeOf (pos n)) place (six-below n (ltb→lt 6 n (above .lt)))
+refused-outside (negsuc n) place (inr above) = refl

@@ -1,4 +1,5 @@
--- Which sizes fit signed 64 bits with each sign; the cap of the reader's loop takes nothing away from that. Assumes nothing.
+-- Which sizes fit signed 64 bits with each sign; the cap of the reader's loop takes nothing away
+-- from that. Assumes nothing.
 use borrow.Author.Tests.{le-leb, lt-leb, lt-ltb, le-ltb}
 use mathlib.Core.Path.{_≡_, refl, sym, _∙_, ap}
 use mathlib.Core.Bool.{Bool, true, false}
@@ -7,34 +8,35 @@ use native.Mathlib.Decide.{decLe}
 use Prim.Native.Nat.{ℕ, zero, suc, _^_, _≤_, _<_}
 use native.Mathlib.Omega.{arith}
 use lib.IntN.{pos, negsuc}
-use Rattle.line.specs.Numbers.{signed, fitsSigned, fitting}
+use Rattle.numbers.specs.Signs.{signed}
+use Rattle.line.specs.Numbers.{fitsSigned, fitting}
 use Rattle.line.specs.Scan.{capped}
 
-pub plus-fits : (n : ℕ) → n < 2 ^ 63 → fitting (signed false n) ≡ some (pos n)
-unfolding fitting fitsSigned signed
-plus-fits n h = rw (lt-ltb n (2 ^ 63) h)
+pub positive-fits : (n : ℕ) → n < 2 ^ 63 → fitting (signed false n) ≡ some (pos n)
+unfolding fitting fitsSigned
+positive-fits n h = rw (lt-ltb n (2 ^ 63) h)
 
-pub plus-far : (n : ℕ) → 2 ^ 63 ≤ n → fitting (signed false n) ≡ none
-unfolding fitting fitsSigned signed
-plus-far n h = rw (le-ltb n (2 ^ 63) h)
+pub positive-far : (n : ℕ) → 2 ^ 63 ≤ n → fitting (signed false n) ≡ none
+unfolding fitting fitsSigned
+positive-far n h = rw (le-ltb n (2 ^ 63) h)
 
-pub minus-fits : (n : ℕ) → n < 2 ^ 63 → fitting (signed true (suc n)) ≡ some (negsuc n)
-unfolding fitting fitsSigned signed
-minus-fits n h = rw (le-leb n 9223372036854775807 (omega arith))
+pub negative-fits : (n : ℕ) → n < 2 ^ 63 → fitting (signed true (suc n)) ≡ some (negsuc n)
+unfolding fitting fitsSigned
+negative-fits n h = rw (le-leb n 9223372036854775807 (omega arith))
 
-pub minus-zero : fitting (signed true 0) ≡ some (pos 0)
-unfolding fitting fitsSigned signed
-minus-zero = refl
+pub negative-zero : fitting (signed true 0) ≡ some (pos 0)
+unfolding fitting fitsSigned
+negative-zero = refl
 
-pub minus-far : (n : ℕ) → 2 ^ 63 < n → fitting (signed true n) ≡ none
-unfolding fitting fitsSigned signed
-minus-far zero h = let z : ⊥ = omega arith in absurd z
-minus-far (suc n) h = rw (lt-leb n 9223372036854775807 (omega arith))
+pub negative-far : (n : ℕ) → 2 ^ 63 < n → fitting (signed true n) ≡ none
+unfolding fitting fitsSigned
+negative-far zero h = let z : ⊥ = omega arith in absurd z
+negative-far (suc n) h = rw (lt-leb n 9223372036854775807 (omega arith))
 
 -- above 2^63 nothing fits, with either sign
 far : (negative : Bool) (n : ℕ) → 2 ^ 63 < n → fitting (signed negative n) ≡ none
-far true n h = minus-far n h
-far false n h = plus-far n (omega arith)
+far true n h = negative-far n h
+far false n h = positive-far n (omega arith)
 
 near-same : (n : ℕ) → n ≤ 2 ^ 63 → capped n ≡ n
 unfolding capped

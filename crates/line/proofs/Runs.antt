@@ -1,5 +1,5 @@
--- Digits at the front of a text: the reader's loop hands on the value and the length of the run, and what stands after it says whether the field is all
--- digits. Assumes nothing.
+-- Digits at the front of a text: the reader's loop hands on the value and the length of the run,
+-- and what stands after it says whether the field is all digits. Assumes nothing.
 use borrow.Author.Tests.{eq-eqb, ne-eqb, eqb-true, eqb-false, leb-true, le-leb, lt-leb}
 use mathlib.Core.Path.{_≡_, refl, sym, _∙_, ap}
 use mathlib.Core.Bool.{Bool, true, false, and-false}
@@ -11,10 +11,12 @@ use native.Mathlib.Decide.{decLe}
 use native.Mathlib.Omega.{arith}
 use lib.Dec.{leb, eqb}
 use lib.ListN.{length, getD}
-use Rattle.line.specs.Numbers.{isDigit, allDigits, valueFrom, valueOf, signed, fitting, digitsNumber}
+use Rattle.numbers.specs.Signs.{signed}
+use Rattle.line.specs.Numbers.{isDigit, allDigits, valueFrom, valueOf, fitting, digitsNumber}
 use Rattle.line.specs.Scan.{digitsOf, field, capped, runFrom}
 use Rattle.line.specs.declared.number.Run.{Run}
-use Rattle.line.proofs.Cases.{either, both-true}
+use Rattle.numbers.proofs.Flags.{both}
+use Rattle.line.proofs.Cases.{either}
 
 -- ---- a digit, and what is none
 pub is-digit : (byte : ℕ) → 48 ≤ byte → byte ≤ 57 → isDigit byte ≡ true
@@ -31,7 +33,7 @@ above-digits byte h = rw (le-leb 48 byte (omega arith), lt-leb byte 57 h)
 
 pub digit-bounds : (byte : ℕ) → isDigit byte ≡ true → (48 ≤ byte) × (byte ≤ 57)
 unfolding isDigit
-digit-bounds byte e = let b = both-true (leb 48 byte) (leb byte 57) e in (leb-true 48 byte (b .0), leb-true byte 57 (b .1))
+digit-bounds byte e = let b = both (leb 48 byte) (leb byte 57) e in (leb-true 48 byte (b .0), leb-true byte 57 (b .1))
 
 pub digit-no-space : (byte : ℕ) → isDigit byte ≡ true → eqb byte 32 ≡ false
 digit-no-space byte e = let d = digit-bounds byte e in ne-eqb byte 32 (λ s. let z : ⊥ = omega arith in z)
@@ -41,7 +43,8 @@ pub grown-far : (value digit : ℕ) → 922337203685477580 < value → 922337203
 unfolding capped
 grown-far value digit h = omega arith
 
-pub grown-near : (value digit : ℕ) → value ≤ 922337203685477580 → digit ≤ 9 → 10 * value + digit ≡ capped (10 * value + digit)
+pub grown-near : (value digit : ℕ) → value ≤ 922337203685477580 → digit ≤ 9
+    → 10 * value + digit ≡ capped (10 * value + digit)
 unfolding capped
 grown-near value digit h d = omega arith
 
@@ -58,11 +61,11 @@ unfolding capped
 capped-twice n = omega arith
 
 -- the run from a place on, with a value so far: what the loop has still to do
-pub onward : ℕ → ℕ → List ℕ → Run
-onward value end text = record { value = capped (valueFrom value (digitsOf text)); end = end + length (digitsOf text) }
+pub runOnward : ℕ → ℕ → List ℕ → Run
+runOnward value end text = record { value = capped (valueFrom value (digitsOf text)); end = end + length (digitsOf text) }
 
-pub onward-start : (text : List ℕ) (at : ℕ) → onward 0 at text ≡ runFrom text at
-unfolding onward runFrom valueOf
+pub onward-start : (text : List ℕ) (at : ℕ) → runOnward 0 at text ≡ runFrom text at
+unfolding runOnward runFrom valueOf
 onward-start text at = refl
 
 -- the cap may be put on at any time
@@ -74,18 +77,18 @@ capped-from n (byte ∷ more) =
     ∙ ap (λ (m : ℕ). capped (valueFrom m more)) (capped-again n (byte - 48))
     ∙ capped-from (10 * n + (byte - 48)) more
 
-pub onward-end : (value end : ℕ) → capped value ≡ value → onward value end [] ≡ record { value = value; end = end }
-unfolding onward digitsOf valueFrom
+pub onward-end : (value end : ℕ) → capped value ≡ value → runOnward value end [] ≡ record { value = value; end = end }
+unfolding runOnward digitsOf valueFrom
 onward-end value end c = let e : end + 0 ≡ end = omega arith in rw (c, e)
 
 pub onward-stop : (value end byte : ℕ) (more : List ℕ) → isDigit byte ≡ false → capped value ≡ value
-    → onward value end (byte ∷ more) ≡ record { value = value; end = end }
-unfolding onward digitsOf valueFrom
+    → runOnward value end (byte ∷ more) ≡ record { value = value; end = end }
+unfolding runOnward digitsOf valueFrom
 onward-stop value end byte more d c = let e : end + 0 ≡ end = omega arith in rw (d, c, e)
 
 pub onward-digit : (value end byte : ℕ) (more : List ℕ) → isDigit byte ≡ true
-    → onward value end (byte ∷ more) ≡ onward (capped (10 * value + (byte - 48))) (end + 1) more
-unfolding onward digitsOf valueFrom
+    → runOnward value end (byte ∷ more) ≡ runOnward (capped (10 * value + (byte - 48))) (end + 1) more
+unfolding runOnward digitsOf valueFrom
 onward-digit value end byte more d =
     let e : end + suc (length (digitsOf more)) ≡ end + 1 + length (digitsOf more) = omega arith in
     rw (d, capped-from (10 * value + (byte - 48)) (digitsOf more), e)
@@ -108,7 +111,8 @@ run-ends (byte ∷ more) h = either (isDigit byte)
     (λ (e : isDigit byte ≡ false). let l : suc (length more) ≤ 0 = rw e at h in let z : ⊥ = omega arith in absurd z)
 
 -- at a space
-pub run-space : (text : List ℕ) → length (digitsOf text) < length text → getD text (length (digitsOf text)) 0 ≡ 32 → field text ≡ digitsOf text
+pub run-space : (text : List ℕ) → length (digitsOf text) < length text → getD text (length (digitsOf text)) 0 ≡ 32
+    → field text ≡ digitsOf text
 unfolding digitsOf field
 run-space [] h g = refl
 run-space (byte ∷ more) h g = either (isDigit byte)
@@ -117,7 +121,8 @@ run-space (byte ∷ more) h g = either (isDigit byte)
     (λ (e : isDigit byte ≡ false). let s : byte ≡ 32 = rw e at g in rw (e, eq-eqb byte 32 s))
 
 -- at any other byte
-pub run-spoilt : (text : List ℕ) → length (digitsOf text) < length text → (getD text (length (digitsOf text)) 0 ≡ 32 → ⊥) → allDigits (field text) ≡ false
+pub run-spoilt : (text : List ℕ) → length (digitsOf text) < length text
+    → (getD text (length (digitsOf text)) 0 ≡ 32 → ⊥) → allDigits (field text) ≡ false
 unfolding digitsOf field allDigits
 run-spoilt [] h g = let z : ⊥ = omega arith in absurd z
 run-spoilt (byte ∷ more) h g = either (isDigit byte)

@@ -3,10 +3,10 @@ use mathlib.Core.Bool.{cond}
 use mathlib.Core.List.{List, [], _∷_, map}
 use mathlib.Core.Option.{Option, some, none}
 use Prim.Native.Nat.{ℕ}
-use lib.Dec.{leb, eqb}
+use lib.Dec.{leb, ltb, eqb}
 use lib.IntN.{ℤ, pos, negsuc}
 use lib.ListN.{length}
-use Rattle.line.specs.Numbers.{numberOf}
+use Rattle.line.specs.Numbers.{numberIn}
 use Rattle.line.specs.declared.reading.Line.{Line}
 use Rattle.line.specs.declared.reading.Line.the-variants.{Numbers, Refused}
 
@@ -15,7 +15,8 @@ abbrev pub startingWith : ℕ → List (List ℕ) → List (List ℕ)
 startingWith byte [] = (byte ∷ []) ∷ []
 startingWith byte (field ∷ more) = (byte ∷ field) ∷ more
 
--- a line's fields: it is split at each space, so an extra space, a leading or a trailing one leaves an empty field
+-- a line's fields: it is split at each space, so an extra space, a leading or a trailing one leaves
+-- an empty field
 unfoldable pub fields : List ℕ → List (List ℕ)
 fields [] = [] ∷ []
 fields (byte ∷ more) = cond (eqb byte 32) ([] ∷ fields more) (startingWith byte (fields more))
@@ -25,21 +26,29 @@ abbrev pub notUnderstood : ℕ → Line
 notUnderstood line = Refused (record { number = 9; place = line })
 
 -- three numbers, and nothing else
-abbrev pub three : List (Option ℤ) → ℕ → Line
-three [] line = notUnderstood line
-three (none ∷ more) line = notUnderstood line
-three (some from ∷ []) line = notUnderstood line
-three (some from ∷ none ∷ more) line = notUnderstood line
-three (some from ∷ some to ∷ []) line = notUnderstood line
-three (some from ∷ some to ∷ none ∷ more) line = notUnderstood line
-three (some from ∷ some to ∷ some tick ∷ []) line = Numbers from to tick
-three (some from ∷ some to ∷ some tick ∷ extra ∷ more) line = notUnderstood line
+abbrev pub threeNumbers : List (Option ℤ) → ℕ → Line
+threeNumbers [] line = notUnderstood line
+threeNumbers (none ∷ more) line = notUnderstood line
+threeNumbers (some from ∷ []) line = notUnderstood line
+threeNumbers (some from ∷ none ∷ more) line = notUnderstood line
+threeNumbers (some from ∷ some to ∷ []) line = notUnderstood line
+threeNumbers (some from ∷ some to ∷ none ∷ more) line = notUnderstood line
+threeNumbers (some from ∷ some to ∷ some tick ∷ []) line = Numbers from to tick
+threeNumbers (some from ∷ some to ∷ some tick ∷ extra ∷ more) line = notUnderstood line
 
 -- 'at most 64 bytes'
-unfoldable pub lineOf : List ℕ → ℕ → Line
-lineOf text line = cond (leb (length text) 64) (three (map numberOf (fields text)) line) (notUnderstood line)
+unfoldable pub lineRead : List ℕ → ℕ → Line
+lineRead text line =
+    cond (leb (length text) 64)
+    (threeNumbers (map numberIn (fields text)) line)
+    (notUnderstood line)
 
--- 'A code outside 0..6 is refusal 1, after 9': the desk's codes are numbers from 0 up, and 7 stands for every other
+-- 'A code outside 0..6 is refusal 1, after 9': which numbers are codes is the desk's to say, whose
+-- codes are unsigned numbers of 32 bits. The greatest of these can never be one: it stands for each
+-- number that is not below it, and for each below 0
+abbrev pub noCode : ℕ
+noCode = 4294967295
+
 abbrev pub codeOf : ℤ → ℕ
-codeOf (pos n) = cond (leb n 6) n 7
-codeOf (negsuc n) = 7
+codeOf (pos n) = cond (ltb n noCode) n noCode
+codeOf (negsuc n) = noCode

@@ -7,6 +7,7 @@ use lib.Dec.{leb, eqb}
 use lib.IntN.{ℤ, pos, negℤ}
 use lib.ListN.{length}
 use lib.Signed.{leZ, ltZ}
+use Rattle.numbers.specs.Signs.{signed}
 
 -- the bytes of the digits 0 to 9
 unfoldable pub isDigit : ℕ → Bool
@@ -24,10 +25,6 @@ valueFrom n (byte ∷ more) = valueFrom (10 * n + (byte - 48)) more
 unfoldable pub valueOf : List ℕ → ℕ
 valueOf digits = valueFrom 0 digits
 
-unfoldable pub signed : Bool → ℕ → ℤ
-signed true size = negℤ (pos size)
-signed false size = pos size
-
 -- 'each fitting signed 64 bits'
 unfoldable pub fitsSigned : ℤ → Bool
 fitsSigned z = leZ (negℤ (pos (2 ^ 63))) z && ltZ z (pos (2 ^ 63))
@@ -38,9 +35,12 @@ fitting z = cond (fitsSigned z) (some z) none
 -- '1 to 20 digits': the minus is not one of them
 unfoldable pub digitsNumber : Bool → List ℕ → Option ℤ
 digitsNumber negative text =
-    cond (leb 1 (length text) && leb (length text) 20 && allDigits text) (fitting (signed negative (valueOf text))) none
+    cond (leb 1 (length text) && leb (length text) 20 && allDigits text)
+    (fitting (signed negative (valueOf text)))
+    none
 
 -- 'optional minus': the number that a text says, if it says one
-unfoldable pub numberOf : List ℕ → Option ℤ
-numberOf [] = none
-numberOf (byte ∷ more) = cond (eqb byte 45) (digitsNumber true more) (digitsNumber false (byte ∷ more))
+unfoldable pub numberIn : List ℕ → Option ℤ
+numberIn [] = none
+numberIn (byte ∷ more) =
+    cond (eqb byte 45) (digitsNumber true more) (digitsNumber false (byte ∷ more))

@@ -6,7 +6,7 @@ use Prim.Native.Nat.{ℕ, _+_, min}
 use lib.Dec.{eqb}
 use lib.IntN.{ℤ}
 use lib.ListN.{length, drop}
-use Rattle.line.specs.Numbers.{isDigit, valueOf, digitsNumber, numberOf}
+use Rattle.line.specs.Numbers.{isDigit, valueOf, digitsNumber, numberIn}
 use Rattle.line.specs.declared.number.Run.{Run}
 use Rattle.line.specs.declared.number.Scanned.{Scanned}
 use Rattle.line.specs.declared.number.Scanned.the-variants.{Number, Wrong}
@@ -26,7 +26,8 @@ unfoldable pub capped : ℕ → ℕ
 capped size = min size 9223372036854775809
 
 unfoldable pub runFrom : List ℕ → ℕ → Run
-runFrom text at = record { value = capped (valueOf (digitsOf text)); end = at + length (digitsOf text) }
+runFrom text at =
+    record { value = capped (valueOf (digitsOf text)); end = at + length (digitsOf text) }
 
 -- a number and where it ends
 abbrev pub foundAt : Option ℤ → ℕ → Scanned
@@ -35,10 +36,12 @@ foundAt none end = Wrong
 
 -- the field that begins at a place, read as digits, and as a number
 unfoldable pub digitsAt : Bool → List ℕ → ℕ → Scanned
-digitsAt negative text at = foundAt (digitsNumber negative (field (drop at text))) (at + length (field (drop at text)))
+digitsAt negative text at =
+    foundAt (digitsNumber negative (field (drop at text))) (at + length (field (drop at text)))
 
-unfoldable pub numberAt : List ℕ → ℕ → Scanned
-numberAt text at = foundAt (numberOf (field (drop at text))) (at + length (field (drop at text)))
+unfoldable pub numberScanned : List ℕ → ℕ → Scanned
+numberScanned text at =
+    foundAt (numberIn (field (drop at text))) (at + length (field (drop at text)))
 
 abbrev pub startsWithMinus : List ℕ → Bool
 startsWithMinus [] = false

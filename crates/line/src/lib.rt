@@ -1,6 +1,4 @@
-// Lines of text: one line to its three numbers or refusal 9, and an answer to its line.
-// Nothing here knows of files: a line is a slice without its newline, and a printed line goes into a lent buffer.
-mod decimal;
+// Lines of text: one line to its three numbers or refusal 9, and which of them are codes.
+// Nothing here knows of files: a line is a slice without its newline.
 mod number;
 pub mod reading;
-pub mod writing;

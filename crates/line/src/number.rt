@@ -1,12 +1,15 @@
-// A number's text at a place of a line: 'optional minus on each, 1 to 20 digits, each fitting signed 64 bits'. One pass over the bytes.
+// A number's text at a place of a line: 'optional minus on each, 1 to 20 digits, each fitting
+// signed 64 bits'. One pass over the bytes.
 ghost use mathlib.Core.Path.{_≡_};
 ghost use mathlib.Core.Bool.{true, false};
 ghost use Prim.Native.Nat.{_≤_, _<_, _+_, _*_};
 ghost use lib.ListN.{length, drop};
-ghost use Rattle.line.specs.Numbers.{fitting, signed};
-ghost use Rattle.line.specs.Scan.{capped, runFrom, foundAt, digitsAt, numberAt, minusAt};
+ghost use Rattle.numbers.specs.Signs.{signed};
+ghost use Rattle.line.specs.Numbers.{fitting};
+ghost use Rattle.line.specs.Scan.{capped, runFrom, foundAt, digitsAt, numberScanned, minusAt};
 
-// The digits at the front of a text: their value, where anything above 2^63 counts as 2^63 + 1, and where they end.
+// The digits at the front of a text: their value, where anything above 2^63 counts as 2^63 + 1, and
+// where they end.
 pub struct Run {
     pub value: u64,
     pub end: usize,
@@ -24,7 +27,8 @@ fn wide(byte: u8) -> u64
     byte as u64
 }
 
-// The value with one more digit. What is above 2^63 fits no more, with either sign, and stays so: 2^63 + 1 stands for all of it.
+// The value with one more digit. What is above 2^63 fits no more, with either sign, and stays so:
+// 2^63 + 1 stands for all of it.
 fn grown(value: u64, digit: u64) -> u64
     requires { ⌜ digit ≤ 9 ⌝ }
     ensures { λ r. ⌜ r ≡ capped (10 * value + digit) ⌝ }
@@ -76,7 +80,8 @@ fn with_sign(negative: bool, size: u64, end: usize) -> Scanned
     }
 }
 
-// The field from `at` on as digits of a number whose sign is known. The callers' place lies in the text or at its end.
+// The field from `at` on as digits of a number whose sign is known. The callers' place lies in the
+// text or at its end.
 fn digits_number(text: &[u8], at: usize, negative: bool) -> Scanned
     requires { ⌜ at ≤ length (now text) ⌝ }
     ensures { λ r. ⌜ r ≡ digitsAt negative (now (text .entry)) at ⌝ }
@@ -108,10 +113,11 @@ fn minus_at(text: &[u8], at: usize) -> bool
     }
 }
 
-// The number whose field begins at `at`, and where the field ends. The callers' place lies in the text or at its end.
+// The number whose field begins at `at`, and where the field ends. The callers' place lies in the
+// text or at its end.
 pub fn number_from(text: &[u8], at: usize) -> Scanned
     requires { ⌜ at ≤ length (now text) ⌝ }
-    ensures { λ r. ⌜ r ≡ numberAt (now (text .entry)) at ⌝ }
+    ensures { λ r. ⌜ r ≡ numberScanned (now (text .entry)) at ⌝ }
 {
     if minus_at(text, at) {
         digits_number(text, at + 1, true)

@@ -1,6 +1,7 @@
--- The laws of the output. `Program`: the whole program's, over the table's bytes. `Pieces`: an input that comes in pieces is answered as the whole of it.
--- `Splits`: a text's whole lines and its unfinished one. For the code: `Held` (no line that is printed is longer than the longest), `Parts` (the front of a
--- buffer).
+-- The laws of the output. `Program`: the whole program's, over the table's bytes. `Pieces`: an
+-- input that comes in pieces is answered as the whole of it. `Splits`: a text's whole lines and its
+-- unfinished one. For the code: `Held` (no line that is printed is longer than the longest),
+-- `Parts` (the front of a buffer).
 pub mod Splits
 pub mod Pieces
 pub mod Program

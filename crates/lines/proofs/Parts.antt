@@ -5,13 +5,13 @@ use Prim.Native.Nat.{ℕ, _+_, _≤_}
 use native.Mathlib.Omega.{arith}
 use lib.ListN.{length, take, drop, length-append}
 use lib.Seq.{take-at}
-use Rattle.line.specs.Buffers.{withText, Put}
+use Rattle.printing.specs.Buffers.{withText, TextPut}
 
-pub put-nothing : (out : List ℕ) → Put out 0 [] out 0
+pub put-nothing : (out : List ℕ) → TextPut out 0 [] out 0
 unfolding withText
 put-nothing out = record { holds = refl; after = refl }
 
-module _ {out text out' : List ℕ} {next : ℕ} (put : Put out 0 text out' next) where
+module _ {out text out' : List ℕ} {next : ℕ} (put : TextPut out 0 text out' next) where
   is : out' ≡ text ++ drop (0 + length text) out
   unfolding withText
   is = put .holds

@@ -10,10 +10,10 @@ use lib.ListN.{length, take, length-append}
 use lib.Seq.{take-all, length-take-le, append-snoc}
 use lib.Dec.{eqb, leb}
 use Rattle.blocks.specs.declared.answer.Judged.{Judged}
-use Rattle.line.specs.Lines.{lineOf}
-use Rattle.line.specs.Texts.{refusedLine}
+use Rattle.line.specs.Lines.{lineRead}
+use Rattle.printing.specs.Texts.{refusedLine}
 use Rattle.line.proofs.Cases.{either}
-use Rattle.lines.specs.Output.{linesOf, printedFor, printedLines, outputOf, hasNewline, wholeLines, unfinished, keptOf, outputInPieces, joined}
+use Rattle.lines.specs.Output.{linesOf, printedFor, printedLines, outputOf, hasNewline, wholeLines, unfinished, keptOf, outputInPieces, joinedPieces}
 use Rattle.lines.proofs.Splits.{plain-front, has-grown, whole-then, unfinished-plain, whole-ended, lines-whole, lines-ended, lines-last}
 
 module _ (table : Judged) (coefficients : List ℤ) where
@@ -37,12 +37,13 @@ module _ (table : Judged) (coefficients : List ℤ) where
   printed-one line more = refl
 
   -- whole lines, and then any text
-  pub output-whole : (text more : List ℕ) → output (wholeLines text ++ more) ≡ output (wholeLines text) ++ output more
+  output-whole : (text more : List ℕ) → output (wholeLines text ++ more) ≡ output (wholeLines text) ++ output more
   unfolding outputOf
   output-whole text more = rw (lines-whole text more) (printed-both (linesOf (wholeLines text)) (linesOf more))
 
   -- a line and its newline, and then any text
-  output-ended : (line more : List ℕ) → hasNewline line ≡ false → output (line ++ (10 ∷ more)) ≡ printed line ++ output more
+  output-ended : (line more : List ℕ) → hasNewline line ≡ false
+      → output (line ++ (10 ∷ more)) ≡ printed line ++ output more
   unfolding outputOf
   output-ended line more plain = rw (lines-ended line more plain) (printed-one line (linesOf more))
 
@@ -63,19 +64,22 @@ module _ (table : Judged) (coefficients : List ℤ) where
   pub output-newline : (text : List ℕ)
       → output (wholeLines (text ++ (10 ∷ []))) ≡ output (wholeLines text) ++ printed (unfinished text)
   output-newline text =
-      ap (output) (whole-ended text ∙ ap (λ (l : List ℕ). l ++ (10 ∷ [])) (sym (whole-then text)) ∙ append-assoc (wholeLines text) (unfinished text) (10 ∷ []))
+      ap (output)
+      (whole-ended text ∙ ap (λ (l : List ℕ). l ++ (10 ∷ [])) (sym (whole-then text)) ∙ append-assoc (wholeLines text) (unfinished text) (10 ∷ []))
       ∙ output-whole text (unfinished text ++ (10 ∷ []))
       ∙ ap (λ (l : List ℕ). output (wholeLines text) ++ l) (output-ended (unfinished text) [] (unfinished-plain text) ∙ rw output-nothing (append-nil _))
 
   -- ---- of a line that is too long, it does not matter which
   too-long : (line : List ℕ) → 65 ≤ length line → printed line ≡ refusedLine 9
-  unfolding printedFor lineOf
+  unfolding printedFor lineRead
   too-long line long = rw (lt-leb (length line) 64 (omega arith))
 
-  output-long : (first second more : List ℕ) → 65 ≤ length first → 65 ≤ length second → hasNewline first ≡ false → hasNewline second ≡ false
+  output-long : (first second more : List ℕ) → 65 ≤ length first → 65 ≤ length second → hasNewline first ≡ false
+      → hasNewline second ≡ false
       → output (first ++ more) ≡ output (second ++ more)
   output-long first second [] l m p q =
-      rw (append-nil first, append-nil second) (output-last first p (omega arith) ∙ too-long first l ∙ sym (output-last second q (omega arith) ∙ too-long second m))
+      rw (append-nil first, append-nil second)
+      (output-last first p (omega arith) ∙ too-long first l ∙ sym (output-last second q (omega arith) ∙ too-long second m))
   output-long first second (byte ∷ more) l m p q = either (eqb byte 10)
       (λ (e : eqb byte 10 ≡ true).
       rw (eqb-true byte 10 e) (output-ended first more p ∙ rw (too-long first l, too-long second m) refl ∙ sym (output-ended second more q)))
@@ -86,7 +90,7 @@ module _ (table : Judged) (coefficients : List ℤ) where
       (output-long (first ++ (byte ∷ [])) (second ++ (byte ∷ [])) more (longer first l) (longer second m) (plain first p) (plain second q)))
 
   -- so that 65 bytes of an unfinished line are enough
-  pub output-kept : (text more : List ℕ) → output (keptOf text ++ more) ≡ output (unfinished text ++ more)
+  output-kept : (text more : List ℕ) → output (keptOf text ++ more) ≡ output (unfinished text ++ more)
   unfolding keptOf
   output-kept text more =
       let rest = unfinished text in
@@ -98,11 +102,13 @@ module _ (table : Judged) (coefficients : List ℤ) where
       output-long (take 65 rest) rest more (omega arith) (omega arith) (plain-front 65 rest (unfinished-plain text)) (unfinished-plain text))
 
   -- ---- piece by piece
-  pub in-pieces : (kept : List ℕ) (pieces : List (List ℕ)) → outputInPieces table coefficients kept pieces ≡ output (kept ++ joined pieces)
-  unfolding outputInPieces joined
+  pub in-pieces : (kept : List ℕ) (pieces : List (List ℕ))
+      → outputInPieces table coefficients kept pieces ≡ output (kept ++ joinedPieces pieces)
+  unfolding outputInPieces joinedPieces
   in-pieces kept [] = rw (append-nil kept)
   in-pieces kept (piece ∷ more) =
-      ap (λ (l : List ℕ). output (wholeLines (kept ++ piece)) ++ l) (in-pieces (keptOf (kept ++ piece)) more ∙ output-kept (kept ++ piece) (joined more))
-      ∙ sym (output-whole (kept ++ piece) (unfinished (kept ++ piece) ++ joined more))
-      ∙ ap (output) (sym (append-assoc (wholeLines (kept ++ piece)) (unfinished (kept ++ piece)) (joined more))
-      ∙ ap (λ (l : List ℕ). l ++ joined more) (whole-then (kept ++ piece)) ∙ append-assoc kept piece (joined more))
+      ap (λ (l : List ℕ). output (wholeLines (kept ++ piece)) ++ l)
+      (in-pieces (keptOf (kept ++ piece)) more ∙ output-kept (kept ++ piece) (joinedPieces more))
+      ∙ sym (output-whole (kept ++ piece) (unfinished (kept ++ piece) ++ joinedPieces more))
+      ∙ ap (output) (sym (append-assoc (wholeLines (kept ++ piece)) (unfinished (kept ++ piece)) (joinedPieces more))
+      ∙ ap (λ (l : List ℕ). l ++ joinedPieces more) (whole-then (kept ++ piece)) ∙ append-assoc kept piece (joinedPieces more))

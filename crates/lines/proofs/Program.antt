@@ -1,5 +1,6 @@
--- The whole program: over the table as it was judged and taken, an input that comes in any pieces is answered as `ticklineOf` says. Assumes nothing.
-use mathlib.Core.Path.{_≡_, refl, _∙_, ap}
+-- The whole program: over the table as it was judged and taken, an input that comes in any pieces
+-- is answered as `ticklineOf` says. Assumes nothing.
+use mathlib.Core.Path.{_≡_, refl, sym, _∙_, ap}
 use mathlib.Core.Bool.{true, false}
 use mathlib.Core.List.{List, [], _∷_, map}
 use mathlib.Core.Option.{Option, some, none}
@@ -7,9 +8,10 @@ use Prim.Native.Nat.{ℕ}
 use lib.Dec.{leb}
 use lib.IntN.{ℤ}
 use lib.ListN.{length}
-use Rattle.scales.specs.declared.answer.Refusal.{Refusal}
+use Rattle.scales.specs.declared.refusal.Refusal.{Refusal}
+use Rattle.scales.specs.declared.scale.Purpose.the-variants as P
 use Rattle.image.specs.declared.table.Table.{Table}
-use Rattle.image.specs.Image.{coefficientsOf}
+use Rattle.image.specs.Image.{coefficientsStored}
 use Rattle.blocks.specs.declared.answer.Judged.{Judged}
 use Rattle.blocks.specs.declared.answer.Judged.the-variants as J
 use Rattle.blocks.specs.Judging.{judged}
@@ -18,38 +20,47 @@ use Rattle.dates.specs.declared.reading.Reading.{Reading}
 use Rattle.dates.specs.Readings.{readOf}
 use Rattle.desk.specs.declared.asked.Asked.{Asked}
 use Rattle.desk.specs.declared.asked.Asked.the-variants as A
-use Rattle.desk.specs.Asked.{askedOf}
-use Rattle.desk.specs.Conversion.{convertAsked, convertJudged, coefficientsIn}
-use Rattle.desk.proofs.Opening.{coefficients-are}
+use Rattle.opened.specs.Opened.{coefficientsIn}
+use Rattle.desk.specs.Conversion.{convertJudged}
+use Rattle.desk.specs.Inner.{askedOf, convertAsked}
+use Rattle.desk.proofs.Asking.{by-asked}
+use Rattle.opened.proofs.Opening.{coefficients-are}
 use Rattle.line.specs.declared.reading.Line.{Line}
 use Rattle.line.specs.declared.reading.Line.the-variants.{Numbers, Refused}
-use Rattle.line.specs.Numbers.{numberOf}
-use Rattle.line.specs.Lines.{fields, three, lineOf}
-use Rattle.line.specs.Texts.{lineText}
+use Rattle.line.specs.Numbers.{numberIn}
+use Rattle.line.specs.Lines.{fields, threeNumbers, lineRead}
+use Rattle.printing.specs.Texts.{lineText}
 use Rattle.line.proofs.Cases.{either}
-use Rattle.lines.specs.Output.{linesOf, answerTo, printedFor, printedLines, outputOf, ticklineOf, outputInPieces, joined}
+use Rattle.lines.specs.Output.{linesOf, answerTo, printedFor, printedLines, outputOf, ticklineOf, outputInPieces, joinedPieces}
 use Rattle.lines.proofs.Pieces.{in-pieces}
 
 -- ---- a table that was refused has no use for coefficients
 module _ (refusal : Refusal) (one other : List ℤ) where
-  asked-any : (asked : Asked) (read : Read) → convertAsked asked read (J.Refused refusal) one ≡ convertAsked asked read (J.Refused refusal) other
+  asked-any : (asked : Asked) (read : Read)
+      → convertAsked asked read (J.Refused refusal) one ≡ convertAsked asked read (J.Refused refusal) other
   asked-any (A.Plain from to) read = refl
   asked-any (A.Crossing from to) read = refl
   asked-any (A.Refused r) read = refl
 
   converted-any : (from to : ℕ) (reading : Reading)
-      → convertJudged from to reading (J.Refused refusal) one ≡ convertJudged from to reading (J.Refused refusal) other
-  unfolding convertJudged
-  converted-any from to reading = asked-any (askedOf from to true) (readOf reading)
+      → convertJudged P.Line from to reading (J.Refused refusal) one
+      ≡ convertJudged P.Line from to reading (J.Refused refusal) other
+  converted-any from to reading =
+      let asked = askedOf P.Line from to true in
+      let read = readOf reading in
+      sym (by-asked P.Line from to reading (J.Refused refusal) one asked read refl refl)
+      ∙ asked-any asked read
+      ∙ by-asked P.Line from to reading (J.Refused refusal) other asked read refl refl
 
   line-any : (line : Line) → answerTo (J.Refused refusal) one line ≡ answerTo (J.Refused refusal) other line
   line-any (Numbers from to tick) = ap (lineText to) (converted-any _ _ _)
   line-any (Refused r) = refl
 
-  lines-any : (lines : List (List ℕ)) → printedLines (J.Refused refusal) one lines ≡ printedLines (J.Refused refusal) other lines
+  lines-any : (lines : List (List ℕ))
+      → printedLines (J.Refused refusal) one lines ≡ printedLines (J.Refused refusal) other lines
   unfolding printedLines printedFor
   lines-any [] = refl
-  lines-any (line ∷ more) = rw (line-any (lineOf line 1), lines-any more)
+  lines-any (line ∷ more) = rw (line-any (lineRead line 1), lines-any more)
 
   output-any : (input : List ℕ) → outputOf (J.Refused refusal) one input ≡ outputOf (J.Refused refusal) other input
   unfolding outputOf
@@ -58,18 +69,21 @@ module _ (refusal : Refusal) (one other : List ℤ) where
 -- ---- the program
 module _ (bytes : List ℕ) (pieces : List (List ℕ)) where
   pub over-accepted : (table : Table) → judged bytes ≡ J.Accepted table
-      → outputInPieces (J.Accepted table) (coefficientsOf bytes (table .count) (table .degree)) [] pieces ≡ ticklineOf bytes (joined pieces)
+      → outputInPieces (J.Accepted table) (coefficientsStored bytes (table .count) (table .degree)) [] pieces
+      ≡ ticklineOf bytes (joinedPieces pieces)
   unfolding ticklineOf
   over-accepted table e = in-pieces (J.Accepted table) _ [] pieces ∙ rw (e, coefficients-are bytes table e)
 
-  pub over-refused : (refusal : Refusal) → judged bytes ≡ J.Refused refusal → outputInPieces (J.Refused refusal) [] [] pieces ≡ ticklineOf bytes (joined pieces)
+  pub over-refused : (refusal : Refusal) → judged bytes ≡ J.Refused refusal
+      → outputInPieces (J.Refused refusal) [] [] pieces ≡ ticklineOf bytes (joinedPieces pieces)
   unfolding ticklineOf
-  over-refused refusal e = in-pieces (J.Refused refusal) [] [] pieces ∙ rw e (output-any refusal [] (coefficientsIn bytes) (joined pieces))
+  over-refused refusal e = in-pieces (J.Refused refusal) [] [] pieces ∙ rw e (output-any refusal [] (coefficientsIn bytes) (joinedPieces pieces))
 
 -- ---- a line's number is not printed
 module _ (table : Judged) (coefficients : List ℤ) where
   numbers-any : (numbers : List (Option ℤ)) (one other : ℕ)
-      → answerTo table coefficients (three numbers one) ≡ answerTo table coefficients (three numbers other)
+      → answerTo table coefficients (threeNumbers numbers one)
+      ≡ answerTo table coefficients (threeNumbers numbers other)
   numbers-any [] one other = refl
   numbers-any (none ∷ more) one other = refl
   numbers-any (some from ∷ []) one other = refl
@@ -79,8 +93,9 @@ module _ (table : Judged) (coefficients : List ℤ) where
   numbers-any (some from ∷ some to ∷ some tick ∷ []) one other = refl
   numbers-any (some from ∷ some to ∷ some tick ∷ extra ∷ more) one other = refl
 
-  pub number-not-printed : (line : List ℕ) (number : ℕ) → answerTo table coefficients (lineOf line number) ≡ printedFor table coefficients line
-  unfolding lineOf printedFor
+  pub number-not-printed : (line : List ℕ) (number : ℕ)
+      → answerTo table coefficients (lineRead line number) ≡ printedFor table coefficients line
+  unfolding lineRead printedFor
   number-not-printed line number = either (leb (length line) 64)
-      (λ (e : leb (length line) 64 ≡ true). rw e (numbers-any (map numberOf (fields line)) number 1))
+      (λ (e : leb (length line) 64 ≡ true). rw e (numbers-any (map numberIn (fields line)) number 1))
       (λ (e : leb (length line) 64 ≡ false). rw e)

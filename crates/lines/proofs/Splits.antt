@@ -13,17 +13,20 @@ use Rattle.line.proofs.Cases.{either}
 use Rattle.lines.specs.Output.{linesOf, hasNewline, wholeLines, unfinished}
 
 -- ---- the first byte
-newline-after : (byte : ℕ) (more : List ℕ) → eqb byte 10 ≡ false → hasNewline (byte ∷ more) ≡ true → hasNewline more ≡ true
+newline-after : (byte : ℕ) (more : List ℕ) → eqb byte 10 ≡ false → hasNewline (byte ∷ more) ≡ true
+    → hasNewline more ≡ true
 unfolding hasNewline
 newline-after byte more e h = or-told e h
 
-plain-both : (byte : ℕ) (more : List ℕ) → hasNewline (byte ∷ more) ≡ false → (eqb byte 10 ≡ false) × (hasNewline more ≡ false)
+plain-both : (byte : ℕ) (more : List ℕ) → hasNewline (byte ∷ more) ≡ false
+    → (eqb byte 10 ≡ false) × (hasNewline more ≡ false)
 unfolding hasNewline
 plain-both byte more h = either (eqb byte 10)
     (λ (e : eqb byte 10 ≡ true). never (sym (rw e at h)))
     (λ (e : eqb byte 10 ≡ false). (e, rw e at h))
 
-plain-cons : (byte : ℕ) (more : List ℕ) → eqb byte 10 ≡ false → hasNewline more ≡ false → hasNewline (byte ∷ more) ≡ false
+plain-cons : (byte : ℕ) (more : List ℕ) → eqb byte 10 ≡ false → hasNewline more ≡ false
+    → hasNewline (byte ∷ more) ≡ false
 unfolding hasNewline
 plain-cons byte more e h = or-neither e h
 
@@ -94,7 +97,8 @@ one-line byte more = either (eqb byte 10)
     starts [] = omega arith
     starts (line ∷ others) = omega arith
 
-starting-both : (byte : ℕ) (lines others : List (List ℕ)) → 1 ≤ length lines → startingWith byte (lines ++ others) ≡ startingWith byte lines ++ others
+starting-both : (byte : ℕ) (lines others : List (List ℕ)) → 1 ≤ length lines
+    → startingWith byte (lines ++ others) ≡ startingWith byte lines ++ others
 starting-both byte [] others h = let z : ⊥ = omega arith in absurd z
 starting-both byte (line ∷ lines) others h = refl
 
@@ -110,7 +114,9 @@ lines-whole [] more = refl
 lines-whole (byte ∷ text) more = either (hasNewline (byte ∷ text))
     (λ (h : hasNewline (byte ∷ text) ≡ true). rw h (either (eqb byte 10)
     (λ (e : eqb byte 10 ≡ true). rw (e, lines-whole text more))
-    (λ (e : eqb byte 10 ≡ false). rw (e, lines-whole text more) (starting-both byte (linesOf (wholeLines text)) (linesOf more) (some-whole text (newline-after byte text e h))))))
+    (λ (e : eqb byte 10 ≡ false).
+    rw (e, lines-whole text more)
+    (starting-both byte (linesOf (wholeLines text)) (linesOf more) (some-whole text (newline-after byte text e h))))))
     (λ (h : hasNewline (byte ∷ text) ≡ false). rw h)
 
 -- a line and its newline, and then any text

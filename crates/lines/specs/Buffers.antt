@@ -6,8 +6,8 @@ use Prim.Native.Nat.{ℕ, _+_, _*_, _≤_}
 use lib.IntN.{ℤ}
 use lib.ListN.{length, take}
 use Rattle.blocks.specs.declared.answer.Judged.{Judged}
-use Rattle.desk.specs.Inner.{Lent}
-use Rattle.line.specs.Buffers.{longest, Put}
+use Rattle.opened.specs.Opened.{Lent}
+use Rattle.printing.specs.Buffers.{longest, TextPut}
 use Rattle.lines.specs.declared.Places.{Places}
 use Rattle.lines.specs.Output.{printedFor, outputOf, hasNewline, wholeLines, keptOf}
 
@@ -16,36 +16,44 @@ pub record Answering (table : Judged) (coefficients : List ℤ) (out : List ℕ)
   pub lent : Lent table coefficients
   pub room : at + longest ≤ length out
 
-pub record Printed (line : List ℕ) (table : Judged) (coefficients : List ℤ) (out : List ℕ) (at : ℕ) (out' : List ℕ) (next : ℕ) : Type 0 where
-  pub put : Put out at (printedFor table coefficients line) out' next
+pub record Printed (line : List ℕ) (table : Judged) (coefficients : List ℤ) (out : List ℕ) (at : ℕ)
+    (out' : List ℕ) (next : ℕ) : Type 0 where
+  pub put : TextPut out at (printedFor table coefficients line) out' next
   pub short : next ≤ at + longest
 
 -- a last line: it has no newline
-pub record Unfinished (text : List ℕ) (table : Judged) (coefficients : List ℤ) (out : List ℕ) : Type 0 where
+pub record Unfinished (text : List ℕ) (table : Judged) (coefficients : List ℤ) (out : List ℕ)
+    : Type 0 where
   pub lent : Lent table coefficients
   pub plain : hasNewline text ≡ false
   pub room : longest ≤ length out
 
 -- ---- the whole lines of a text
 -- a line has at least its newline, so that this is room enough
-pub record Ready (text : List ℕ) (table : Judged) (coefficients : List ℤ) (out : List ℕ) : Type 0 where
+pub record LinesReady (text : List ℕ) (table : Judged) (coefficients : List ℤ) (out : List ℕ)
+    : Type 0 where
   pub lent : Lent table coefficients
   pub room : longest * length text ≤ length out
 
-pub record Answered (text : List ℕ) (table : Judged) (coefficients : List ℤ) (out out' : List ℕ) (r : Places) : Type 0 where
+pub record LinesAnswered (text : List ℕ) (table : Judged) (coefficients : List ℤ)
+    (out out' : List ℕ)
+    (r : Places) : Type 0 where
   pub begins : r .text ≡ length (wholeLines text)
-  pub put : Put out 0 (outputOf table coefficients (wholeLines text)) out' (r .out)
+  pub put : TextPut out 0 (outputOf table coefficients (wholeLines text)) out' (r .out)
 
 -- ---- a turn over the text's first bytes
 pub record Moving (text : List ℕ) (start end : ℕ) : Type 0 where
   pub ordered : start ≤ end
   pub inside : end ≤ length text
 
-pub record Filled (text : List ℕ) (filled : ℕ) (table : Judged) (coefficients : List ℤ) (out : List ℕ) : Type 0 where
+pub record TextFilled (text : List ℕ) (filled : ℕ) (table : Judged) (coefficients : List ℤ)
+    (out : List ℕ) : Type 0 where
   pub lent : Lent table coefficients
   pub inside : filled ≤ length text
   pub room : longest * length text ≤ length out
 
-pub record Fed (text : List ℕ) (filled : ℕ) (table : Judged) (coefficients : List ℤ) (out text' out' : List ℕ) (r : Places) : Type 0 where
-  pub kept : Put text 0 (keptOf (take filled text)) text' (r .text)
-  pub put : Put out 0 (outputOf table coefficients (wholeLines (take filled text))) out' (r .out)
+pub record Fed (text : List ℕ) (filled : ℕ) (table : Judged) (coefficients : List ℤ)
+    (out text' out' : List ℕ) (r : Places) : Type 0 where
+  pub kept : TextPut text 0 (keptOf (take filled text)) text' (r .text)
+  pub put :
+      TextPut out 0 (outputOf table coefficients (wholeLines (take filled text))) out' (r .out)

@@ -1,12 +1,13 @@
--- Sizes of the scaled Chebyshev polynomials: where |p| ≤ H, |E_k| ≤ H^k and |W_k| ≤ (k+1)·H^k. Both come from Pell's equation,
--- E_k² + (H² − p²)·W_(k−1)² = H^(2k), the whole-number form of cos² + sin² = 1. Then E over another denominator, and at the two ends. Assumes nothing.
+-- Sizes of the scaled Chebyshev polynomials: where |p| ≤ H, |E_k| ≤ H^k. It comes from Pell's
+-- equation, E_k² + (H² − p²)·W_(k−1)² = H^(2k), the whole-number form of cos² + sin² = 1. Then E
+-- over another denominator, and at the two ends. Assumes nothing.
 use mathlib.Core.Path.{_≡_, refl, _∙_, ap, subst, sym}
 use Prim.Native.Nat.{ℕ, zero, suc, _+_, _*_, _^_, _≤_, _<_}
 use native.Mathlib.Omega.{arith}
 use lib.IntN.{ℤ, pos, _+ℤ_, _-ℤ_, _*ℤ_, natAbs, negℤ}
 use lib.Signed.{_≤ℤ_, ≤ℤ-refl}
-use native.Mathlib.Nat.{mul-le-mul, pow-succ', pow-zero, mul-pos}
-use Rattle.numbers.proofs.Order.{0≤*, 0≤sq, 0≤-, abs-+, abs-*, abs→sq, sq→abs, drop-r}
+use native.Mathlib.Nat.{pow-succ', pow-zero, mul-pos}
+use Rattle.numbers.proofs.Order.{0≤*, 0≤sq, 0≤-, abs→sq, sq→abs, drop-r}
 use Rattle.numbers.specs.Chebyshev.{E, W}
 use Rattle.numbers.proofs.Solver.{ring, quote, q-con, all₂, all₄, q-ncon, all₁, all₃, all₆}
 
@@ -46,7 +47,8 @@ e-first = all₂ _ (λ ρ. simp (quote, q-con ρ) (ring ρ _ _ tt))
 u-first : (p : ℤ) → pos 1 ≡ p *ℤ pos 0 +ℤ pos 1
 u-first p = all₂ (λ p h. pos 1 ≡ p *ℤ pos 0 +ℤ pos 1) (λ ρ. simp (quote, q-con ρ) (ring ρ _ _ tt)) p p
 
-e-step : (p h e u : ℤ) → pos 2 *ℤ p *ℤ (p *ℤ e -ℤ D p h *ℤ u) -ℤ h *ℤ h *ℤ e ≡ p *ℤ (p *ℤ e -ℤ D p h *ℤ u) -ℤ D p h *ℤ (p *ℤ u +ℤ e)
+e-step : (p h e u : ℤ)
+    → pos 2 *ℤ p *ℤ (p *ℤ e -ℤ D p h *ℤ u) -ℤ h *ℤ h *ℤ e ≡ p *ℤ (p *ℤ e -ℤ D p h *ℤ u) -ℤ D p h *ℤ (p *ℤ u +ℤ e)
 e-step = all₄ _ (λ ρ. simp (quote, q-con ρ) (ring ρ _ _ tt))
 
 u-step : (p h e u : ℤ) → pos 2 *ℤ p *ℤ (p *ℤ u +ℤ e) -ℤ h *ℤ h *ℤ u ≡ p *ℤ (p *ℤ u +ℤ e) +ℤ (p *ℤ e -ℤ D p h *ℤ u)
@@ -103,20 +105,6 @@ E-bound p H k b = let e = E p (pos H) k in let u = U p (pos H) k in
     sq→abs e (H ^ k) (drop-r (e *ℤ e) (D p (pos H) *ℤ (u *ℤ u)) _ (D-part p H u b)
     (subst (λ (z : ℤ). N p (pos H) e u ≤ℤ z) (pell p (pos H) k ∙ pow-nat H k) (≤ℤ-refl (N p (pos H) e u))))
 
-U-one : (p : ℤ) (H : ℕ) → natAbs (U p (pos H) 1) ≤ 1 * H ^ 0
-unfolding U W
-U-one p H = omega (arith, pow-zero H)
-
-U-bound : (p : ℤ) (H k : ℕ) → natAbs p ≤ H → natAbs (U p (pos H) (suc k)) ≤ suc k * H ^ k
-U-bound p H zero b = U-one p H
-U-bound p H (suc k) b = let e = E p (pos H) (suc k) in let u = U p (pos H) (suc k) in
-    rw (turn p (pos H) (suc k) .u, pow-succ' H k)
-    (omega (arith, abs-+ (p *ℤ u) e, abs-* p u, mul-le-mul b (U-bound p H k b), E-bound p H (suc k) b, pow-succ' H k))
-
-pub W-bound : (p : ℤ) (H k : ℕ) → natAbs p ≤ H → natAbs (W p (pos H) k) ≤ suc k * H ^ k
-unfolding U
-W-bound p H k b = U-bound p H k b
-
 -- ---- powers
 pub pow-above : (H n : ℕ) → 0 < H → 0 < H ^ n
 pow-above H zero h = rw (pow-zero H) (omega arith)
@@ -127,7 +115,9 @@ pow-mul a b zero = rw (pow-zero (a * b), pow-zero a, pow-zero b) (omega arith)
 pow-mul a b (suc n) = rw (pow-succ' (a * b) n, pow-succ' a n, pow-succ' b n, pow-mul a b n) (omega arith)
 
 -- ---- another denominator
-scale-id : (p h g w x y : ℤ) → pos 2 *ℤ (p *ℤ g) *ℤ (g *ℤ w *ℤ x) -ℤ h *ℤ g *ℤ (h *ℤ g) *ℤ (w *ℤ y) ≡ g *ℤ (g *ℤ w) *ℤ (pos 2 *ℤ p *ℤ x -ℤ h *ℤ h *ℤ y)
+scale-id : (p h g w x y : ℤ)
+    → pos 2 *ℤ (p *ℤ g) *ℤ (g *ℤ w *ℤ x) -ℤ h *ℤ g *ℤ (h *ℤ g) *ℤ (w *ℤ y)
+    ≡ g *ℤ (g *ℤ w) *ℤ (pos 2 *ℤ p *ℤ x -ℤ h *ℤ h *ℤ y)
 scale-id = all₆ _ (λ ρ. simp (quote, q-con ρ) (ring ρ _ _ tt))
 
 swap : (x y : ℤ) → x *ℤ y ≡ y *ℤ x
@@ -137,7 +127,8 @@ pub E-scale : (p : ℤ) (H G k : ℕ) → E (p *ℤ pos G) (pos (H * G)) k ≡ p
 E-scale p H G zero = rw (E-zero (p *ℤ pos G) (pos (H * G)), E-zero p (pos H), pow-zero G)
 E-scale p H G (suc zero) =
     rw (E-one (p *ℤ pos G) (pos (H * G)), E-one p (pos H), pow-succ' G 0, pow-zero G) (swap p (pos G) ∙ ap (λ (n : ℕ). pos n *ℤ p) (omega arith))
-E-scale p H G (suc (suc k)) = rw (E-rec (p *ℤ pos G) (pos (H * G)) k, E-scale p H G (suc k), E-scale p H G k, E-rec p (pos H) k, pow-succ' G (suc k), pow-succ' G k)
+E-scale p H G (suc (suc k)) =
+    rw (E-rec (p *ℤ pos G) (pos (H * G)) k, E-scale p H G (suc k), E-scale p H G k, E-rec p (pos H) k, pow-succ' G (suc k), pow-succ' G k)
     (scale-id p (pos H) (pos G) (pos (G ^ k)) (E p (pos H) (suc k)) (E p (pos H) k))
 
 -- ---- the two ends
@@ -162,7 +153,8 @@ pub sign-suc : (k : ℕ) → sign (suc k) ≡ negℤ (sign k)
 unfolding sign
 sign-suc k = refl
 
-start-id : (h w s : ℤ) → pos 2 *ℤ negℤ h *ℤ (negℤ s *ℤ (h *ℤ w)) -ℤ h *ℤ h *ℤ (s *ℤ w) ≡ negℤ (negℤ s) *ℤ (h *ℤ (h *ℤ w))
+start-id : (h w s : ℤ)
+    → pos 2 *ℤ negℤ h *ℤ (negℤ s *ℤ (h *ℤ w)) -ℤ h *ℤ h *ℤ (s *ℤ w) ≡ negℤ (negℤ s) *ℤ (h *ℤ (h *ℤ w))
 start-id = all₃ _ (λ ρ. simp (quote, q-con ρ) (ring ρ _ _ tt))
 
 start-one : (h : ℤ) → negℤ h ≡ negℤ (pos 1) *ℤ (h *ℤ pos 1)
@@ -171,4 +163,6 @@ start-one = all₁ _ (λ ρ. simp (quote, q-con ρ, q-ncon ρ) (ring ρ _ _ tt))
 pub E-start : (H k : ℕ) → E (negℤ (pos H)) (pos H) k ≡ sign k *ℤ pos (H ^ k)
 E-start H zero = rw (E-zero (negℤ (pos H)) (pos H), sign-zero, pow-zero H)
 E-start H (suc zero) = rw (E-one (negℤ (pos H)) (pos H), sign-suc 0, sign-zero, pow-succ' H 0, pow-zero H) (start-one (pos H))
-E-start H (suc (suc k)) = rw (E-rec (negℤ (pos H)) (pos H) k, E-start H (suc k), E-start H k, sign-suc (suc k), sign-suc k, pow-succ' H (suc k), pow-succ' H k) (start-id (pos H) (pos (H ^ k)) (sign k))
+E-start H (suc (suc k)) =
+    rw (E-rec (negℤ (pos H)) (pos H) k, E-start H (suc k), E-start H k, sign-suc (suc k), sign-suc k, pow-succ' H (suc k), pow-succ' H k)
+    (start-id (pos H) (pos (H ^ k)) (sign k))

@@ -1,10 +1,12 @@
--- The bridge from ℤ to `omega`. Each integer is a difference of naturals, `diff a b` for a − b, and `diff` is shut, so that `simp lin` carries
--- a linear statement over ℤ to one over ℕ, which `omega arith` proves:
+-- The bridge from ℤ to `omega`. Each integer is a difference of naturals, `diff a b` for a − b, and
+-- `diff` is shut, so that `simp lin` carries a linear statement over ℤ to one over ℕ, which `omega
+-- arith` proves:
 --
 --     law : (x y : ℤ) → x ≤ℤ y → (x +ℤ pos 1) ≤ℤ (y +ℤ pos 1)
 --     law = rep₂ _ (λ a b c d. simp lin (omega arith))
 --
--- Where the statement has an absolute value that is not simply bounded above (`natAbs x ≤ n`), write `sizes` for `lin`. Assumes nothing.
+-- Where the statement has an absolute value that is not simply bounded above (`natAbs x ≤ n`),
+-- write `sizes` for `lin`. Assumes nothing.
 use mathlib.Core.Path.{_≡_, refl, sym, _∙_, ap, subst}
 use mathlib.Core.Logic.{_↔_}
 use mathlib.Core.Bool.{Bool, true, false, not, cond}
@@ -26,7 +28,8 @@ cond-ind true x y P f g = f tt
 cond-ind false x y P f g = g tt
 
 -- a difference is one of the two constructors
-module _ (P : ℕ → ℕ → ℤ → Type 0) (f : (b k : ℕ) → P (b + k) b (pos k)) (g : (a k : ℕ) → P a (a + suc k) (negsuc k)) where
+module _ (P : ℕ → ℕ → ℤ → Type 0) (f : (b k : ℕ) → P (b + k) b (pos k))
+    (g : (a k : ℕ) → P a (a + suc k) (negsuc k)) where
   cases : (a b : ℕ) → P a b (diff a b)
   unfolding diff
   cases a b = cond-ind (ltb a b) (negsuc (b - suc a)) (pos (a - b)) (P a b)
@@ -64,7 +67,8 @@ rep₂ P f = rep (λ x. (y : ℤ) → P x y) (λ a b. rep (P (diff a b)) (f a b)
 pub rep₃ : (P : ℤ → ℤ → ℤ → Type 0) → ((a b c d e f : ℕ) → P (diff a b) (diff c d) (diff e f)) → (x y z : ℤ) → P x y z
 rep₃ P f = rep (λ x. (y z : ℤ) → P x y z) (λ a b. rep₂ (P (diff a b)) (f a b))
 
-pub rep₄ : (P : ℤ → ℤ → ℤ → ℤ → Type 0) → ((a b c d e f g h : ℕ) → P (diff a b) (diff c d) (diff e f) (diff g h)) → (x y z w : ℤ) → P x y z w
+pub rep₄ : (P : ℤ → ℤ → ℤ → ℤ → Type 0) → ((a b c d e f g h : ℕ) → P (diff a b) (diff c d) (diff e f) (diff g h))
+    → (x y z w : ℤ) → P x y z w
 rep₄ P f = rep (λ x. (y z w : ℤ) → P x y z w) (λ a b. rep₃ (P (diff a b)) (f a b))
 
 -- ---- what the operations and the orders do to differences
@@ -73,14 +77,18 @@ diff-negℤ = cases (λ a b z. negℤ z ≡ diff b a) (λ b k. neg-pos k ∙ dif
 
 pub diff-add : (a b c d : ℕ) → diff a b +ℤ diff c d ≡ diff (a + c) (b + d)
 diff-add a b c d = cases (λ a b x. x +ℤ diff c d ≡ diff (a + c) (b + d))
-    (λ b k. cases (λ c d y. pos k +ℤ y ≡ diff (b + k + c) (b + d)) (λ d l. pos-diff (k + l) ∙ diff-same _ _ _ _ (omega arith)) (λ c l. sub-diff k (suc l) ∙ diff-same _ _ _ _ (omega arith)) c d)
-    (λ a k. cases (λ c d y. negsuc k +ℤ y ≡ diff (a + c) (a + suc k + d)) (λ d l. sub-diff l (suc k) ∙ diff-same _ _ _ _ (omega arith)) (λ c l. negsuc-diff (suc (k + l)) ∙ diff-same _ _ _ _ (omega arith)) c d)
+    (λ b k. cases (λ c d y. pos k +ℤ y ≡ diff (b + k + c) (b + d)) (λ d l. pos-diff (k + l) ∙ diff-same _ _ _ _ (omega arith))
+    (λ c l. sub-diff k (suc l) ∙ diff-same _ _ _ _ (omega arith)) c d)
+    (λ a k. cases (λ c d y. negsuc k +ℤ y ≡ diff (a + c) (a + suc k + d)) (λ d l. sub-diff l (suc k) ∙ diff-same _ _ _ _ (omega arith))
+    (λ c l. negsuc-diff (suc (k + l)) ∙ diff-same _ _ _ _ (omega arith)) c d)
     a b
 
 pub diff-mul : (a b c d : ℕ) → diff a b *ℤ diff c d ≡ diff (a * c + b * d) (a * d + b * c)
 diff-mul a b c d = cases (λ a b x. x *ℤ diff c d ≡ diff (a * c + b * d) (a * d + b * c))
-    (λ b k. cases (λ c d y. pos k *ℤ y ≡ diff ((b + k) * c + b * d) ((b + k) * d + b * c)) (λ d l. pos-diff (k * l) ∙ diff-same _ _ _ _ (omega arith)) (λ c l. neg-pos (k * suc l) ∙ diff-same _ _ _ _ (omega arith)) c d)
-    (λ a k. cases (λ c d y. negsuc k *ℤ y ≡ diff (a * c + (a + suc k) * d) (a * d + (a + suc k) * c)) (λ d l. neg-pos (suc k * l) ∙ diff-same _ _ _ _ (omega arith)) (λ c l. pos-diff (suc k * suc l) ∙ diff-same _ _ _ _ (omega arith)) c d)
+    (λ b k. cases (λ c d y. pos k *ℤ y ≡ diff ((b + k) * c + b * d) ((b + k) * d + b * c)) (λ d l. pos-diff (k * l) ∙ diff-same _ _ _ _ (omega arith))
+    (λ c l. neg-pos (k * suc l) ∙ diff-same _ _ _ _ (omega arith)) c d)
+    (λ a k. cases (λ c d y. negsuc k *ℤ y ≡ diff (a * c + (a + suc k) * d) (a * d + (a + suc k) * c))
+    (λ d l. neg-pos (suc k * l) ∙ diff-same _ _ _ _ (omega arith)) (λ c l. pos-diff (suc k * suc l) ∙ diff-same _ _ _ _ (omega arith)) c d)
     a b
 
 pub diff-abs : (a b : ℕ) → natAbs (diff a b) ≡ (a - b) + (b - a)

@@ -1,17 +1,17 @@
--- What an `i64` of the code says of integers: that a number fits and reads back from its bits, what a test of two of them leaves, tests that say the same,
--- and that >> is a floor. Assumes nothing.
+-- What an `i64` of the code says of integers: that a number fits and reads back from its bits, what
+-- a test of two of them leaves, tests that say the same, and that >> is a floor. Assumes nothing.
 use mathlib.Core.Path.{_≡_, refl, sym, subst, _∙_}
 use mathlib.Core.Bool.{Bool, true, false, not, _&&_}
 use mathlib.Core.Logic.{⊎-elim}
-use Prim.Native.Nat.{ℕ, _^_, _<_, _≤_}
+use Prim.Native.Nat.{ℕ, _+_, _^_, _<_, _≤_, zero-le}
 use native.Mathlib.Omega.{arith}
 use lib.Dec.{T, leb, leb→le, le→leb, lt→ltb, ltb→lt}
 use lib.IntN.{ℤ, pos, negsuc, negℤ, natAbs, _-ℤ_, +ℤ-idl}
-use lib.Signed.{_≤ℤ_, _<ℤ_, ltZ, leZ, ltZ-no, shrZ}
+use lib.Signed.{_≤ℤ_, _<ℤ_, ltZ, leZ, ltZ-no, shrZ, nonNeg}
 use Rattle.numbers.proofs.Differences.{rep₂, lin, rep}
-use Rattle.numbers.proofs.Order.{≤-total, abs-neg}
+use Rattle.numbers.proofs.Order.{le-pos, ≤-total, abs-neg}
 use mir.Syntax.{w64}
-use mir.Val.{SFits, toZ, ofZ}
+use mir.Val.{Fits, SFits, toZ, ofZ}
 use Rattle.numbers.specs.Rounding.{floorDiv}
 use mir.ValLaws.{toZ-ofZ, toZ-pos}
 use mir.Facts.{and-yes, yes-and}
@@ -55,8 +55,12 @@ no-lt x y h = is-false (ltZ x y) (λ t. clash x y (record { lt = t }) h)
 pub no-le : (x y : ℤ) → y <ℤ x → leZ x y ≡ false
 no-le x y h = is-false (leZ x y) (λ t. clash y x h (record { le = t }))
 
-pub le-no : (x y : ℤ) → leZ x y ≡ false → y <ℤ x
-le-no x y e = ⊎-elim (λ (h : x ≤ℤ y). let z : _≡_ {A = ℕ} 0 1 = cc (yes-le x y h) in let never : ⊥ = omega arith in absurd never) (λ (h : y <ℤ x). h) (≤-total x y)
+-- `!(x < y)` is y ≤ x
+pub not-lt : (x y : ℤ) → not (ltZ x y) ≡ leZ y x
+not-lt x y = ⊎-elim
+    (λ (h : y ≤ℤ x). let a = no-lt x y h in let b = yes-le y x h in rw (a, b))
+    (λ (h : x <ℤ y). let a = yes-lt x y h in let b = no-le y x h in rw (a, b))
+    (≤-total y x)
 
 -- ---- z >> k is the floor of z / 2^k
 pub shr-floor : (z : ℤ) (d : ℕ) → shrZ z d ≡ floorDiv z d
@@ -122,3 +126,30 @@ module _ (n : ℕ) (h : n < 2 ^ 63) where
 
   pub minus-is : toZ w64 (ofZ w64 (pos 0 -ℤ toZ w64 n)) ≡ negℤ (pos n)
   minus-is = toZ-ofZ w64 _ minus-fits ∙ minus-read
+
+-- ---- −1 − z, for a z below 0: it fits where −z does not, and is one short of |z|
+pub flip : (k : ℕ) → negsuc 0 -ℤ negsuc k ≡ pos k
+flip k = over (negsuc k) refl
+  where
+    over : (x : ℤ) → x ≡ negsuc k → negsuc 0 -ℤ x ≡ pos k
+    over = rep _ (λ a b. simp lin (omega arith))
+
+pub record Flipped (z : ℤ) : Type 0 where
+  pub fits : SFits w64 (negsuc 0 -ℤ z)
+  pub cast : T (nonNeg (negsuc 0 -ℤ z)) × Fits w64 (natAbs (negsuc 0 -ℤ z))
+  pub sum : Fits w64 (natAbs (negsuc 0 -ℤ z) + 1)
+  pub is : natAbs (negsuc 0 -ℤ z) + 1 ≡ natAbs z
+
+pub flipped : (z : ℤ) → SFits w64 z → z <ℤ pos 0 → Flipped z
+flipped (pos n) f l = absurd (clash (pos n) (pos 0) l (le-pos 0 n zero-le))
+flipped (negsuc k) f l = let h = f .sfits in record {
+  fits = rw (flip k) (record { sfits = h });
+  cast = rw (flip k) (tt, record { fits = omega arith });
+  sum = rw (flip k) (record { fits = omega arith });
+  is = rw (flip k) (omega arith);
+}
+
+-- and a z that is not below 0 is its size
+pub natural-cast : (z : ℤ) → SFits w64 z → pos 0 ≤ℤ z → T (nonNeg z) × Fits w64 (natAbs z)
+natural-cast (pos k) f l = let h = f .sfits in (tt, record { fits = omega arith })
+natural-cast (negsuc k) f l = absurd (l .le)

@@ -1,5 +1,5 @@
--- ℤ as an ordered ring: orders, products and absolute values. A fact that is linear in its variables needs no law: `rep` and `lin` prove it in place.
--- Assumes nothing.
+-- ℤ as an ordered ring: orders, products and absolute values. A fact that is linear in its
+-- variables needs no law: `rep` and `lin` prove it in place. Assumes nothing.
 use mathlib.Core.Path.{_≡_, refl, sym, subst}
 use mathlib.Core.Logic.{_⊎_, inl, inr, ⊎-map, ⊎-elim}
 use native.Mathlib.Decide.{decLe}
@@ -27,7 +27,7 @@ pub ≤-trans : (x y z : ℤ) → x ≤ℤ y → y ≤ℤ z → x ≤ℤ z
 pub ≤-antisym : (x y : ℤ) → x ≤ℤ y → y ≤ℤ x → x ≡ y
 ≤-antisym = rep₂ _ (λ a b c d. simp lin (omega arith))
 
-le-or-lt : (m n : ℕ) → (m ≤ n) ⊎ (n < m)
+pub le-or-lt : (m n : ℕ) → (m ≤ n) ⊎ (n < m)
 le-or-lt m n = elim (decLe m n) [ yes h ↦ inl h | no h ↦ inr (omega arith) ]
 
 pub ≤-total : (x y : ℤ) → (x ≤ℤ y) ⊎ (y <ℤ x)
@@ -53,15 +53,9 @@ pub 0≤sq : (x : ℤ) → pos 0 ≤ℤ (x *ℤ x)
 0≤sq (pos a) = le-pos 0 (a * a) zero-le
 0≤sq (negsuc a) = le-pos 0 (suc a * suc a) zero-le
 
--- a natural factor keeps the order, and one above 0 gives it back
+-- a natural factor keeps the order
 pub *-mono : (n : ℕ) (x y : ℤ) → x ≤ℤ y → (pos n *ℤ x) ≤ℤ (pos n *ℤ y)
 *-mono n = rep₂ _ (λ a b c d. simp lin (λ h. omega (arith, mul-le-mul-right n h)))
-
-pub *-cancel : (n : ℕ) (x y : ℤ) → 0 < n → (pos n *ℤ x) ≤ℤ (pos n *ℤ y) → x ≤ℤ y
-*-cancel n x y p h = ⊎-elim (λ (k : x ≤ℤ y). k) (λ (k : y <ℤ x). absurd (no x y k h)) (≤-total x y)
-  where
-    no : (x y : ℤ) → y <ℤ x → (pos n *ℤ x) ≤ℤ (pos n *ℤ y) → ⊥
-    no = rep₂ _ (λ a b c d. simp lin (λ k h. omega (arith, mul-le-mul-right n k)))
 
 -- ---- absolute values
 pub abs-neg : (x : ℤ) → natAbs (negℤ x) ≡ natAbs x
@@ -69,6 +63,9 @@ abs-neg = rep _ (λ a b. simp sizes (omega arith))
 
 pub abs-+ : (x y : ℤ) → natAbs (x +ℤ y) ≤ natAbs x + natAbs y
 abs-+ = rep₂ _ (λ a b c d. simp sizes (omega arith))
+
+pub abs-minus : (x y : ℤ) → natAbs (x -ℤ y) ≤ natAbs x + natAbs y
+abs-minus = rep₂ _ (λ a b c d. simp sizes (omega arith))
 
 pub abs-* : (x y : ℤ) → natAbs (x *ℤ y) ≡ natAbs x * natAbs y
 abs-* (pos a) (pos b) = refl

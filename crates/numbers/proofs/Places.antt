@@ -3,7 +3,7 @@ use mathlib.Core.Path.{_≡_, refl, sym, _∙_, ap, subst}
 use mathlib.Core.Bool.{Bool, true, false, cond}
 use mathlib.Core.List.{List, [], _∷_, map}
 use mathlib.Core.Logic.{⊎-elim}
-use Prim.Native.Nat.{ℕ, zero, suc, _+_, _≤_, _<_, zero-le}
+use Prim.Native.Nat.{ℕ, zero, suc, _≤_, _<_, zero-le}
 use native.Mathlib.Nat.{le-of-suc-le-suc, not-suc-le-zero, eq-or-lt-of-le, le-refl, lt-irrefl}
 use native.Mathlib.Omega.{arith}
 use lib.ListN.{length, getD, length-map}
@@ -45,7 +45,8 @@ lowest-first p (suc n) = go (p 0) refl (lowest-first (λ i. p (suc i)) n)
     back r zero e f h = e
     back r (suc k) e f h = f .before k (le-of-suc-le-suc h)
 
-    go : (t : Bool) → p 0 ≡ t → First (λ i. p (suc i)) n (lowest (λ i. p (suc i)) n) → First p (suc n) (cond t (suc (lowest (λ i. p (suc i)) n)) 0)
+    go : (t : Bool) → p 0 ≡ t → First (λ i. p (suc i)) n (lowest (λ i. p (suc i)) n)
+        → First p (suc n) (cond t (suc (lowest (λ i. p (suc i)) n)) 0)
     go true e f =
         record { within = suc-le (f .within); before = λ k h. back _ k e f h; found = λ h. f .found (le-of-suc-le-suc h) }
     go false e f = record { within = zero-le; before = λ k h. absurd (not-suc-le-zero h); found = λ _. e }
@@ -56,28 +57,6 @@ none-fails p n h = first-is p n n (record { within = le-refl n; before = h; foun
 
 pub all-pass : (p : ℕ → Bool) (n : ℕ) → n ≤ lowest p n → (k : ℕ) → k < n → p k ≡ true
 all-pass p n e k h = lowest-first p n .before k (omega arith)
-
--- one place more: it goes on where none has failed before and this one does not
-module _ (p : ℕ → Bool) (n r : ℕ) (e : r ≡ lowest p n) where
-  pub still : r < n → r ≡ lowest p (n + 1)
-  still h =
-      let f = lowest-first p n in
-      first-is p (n + 1) r (record { within = omega arith; before = λ k l. f .before k (subst (λ (m : ℕ). k < m) e l); found = λ _. ap p e ∙ f .found (omega arith) })
-
-  pub stops-here : n ≤ r → p n ≡ false → r ≡ lowest p (n + 1)
-  stops-here h d =
-      let f = lowest-first p n in
-      let x : r ≡ n = omega (arith, f .within) in
-      first-is p (n + 1) r (record { within = omega arith; before = λ k l. f .before k (subst (λ (m : ℕ). k < m) e l); found = λ _. ap p x ∙ d })
-
-  pub goes-on : n ≤ r → p n ≡ true → r + 1 ≡ lowest p (n + 1)
-  goes-on h d =
-      let f = lowest-first p n in
-      let x : r ≡ n = omega (arith, f .within) in
-      first-is p (n + 1) (r + 1) (record { within = omega arith; before = λ k l. ⊎-elim (λ (y : k ≡ r). ap p (y ∙ x) ∙ d) (λ (y : k < r). f .before k (subst (λ (m : ℕ). k < m) e y)) (eq-or-lt-of-le (under k l)); found = λ l. let z : ⊥ = omega arith in absurd z })
-    where
-      under : (k : ℕ) → k < r + 1 → k ≤ r
-      under k l = omega arith
 
 -- ---- every place
 pub every-is : (p : ℕ → Bool) (n : ℕ) → ((k : ℕ) → k < n → p k ≡ true) → every p n ≡ true
@@ -111,25 +90,20 @@ upTo-at f zero i d h = absurd (not-suc-le-zero h)
 upTo-at f (suc n) zero d h = refl
 upTo-at f (suc n) (suc i) d h = upTo-at (λ j. f (suc j)) n i d (le-of-suc-le-suc h)
 
-pub is-upTo : {A : Type 0} (f : ℕ → A) (n : ℕ) (d : A) (l : List A) → length l ≡ n → ((i : ℕ) → i < n → getD l i d ≡ f i) → l ≡ upTo f n
+pub is-upTo : {A : Type 0} (f : ℕ → A) (n : ℕ) (d : A) (l : List A) → length l ≡ n
+    → ((i : ℕ) → i < n → getD l i d ≡ f i) → l ≡ upTo f n
 is-upTo f n d l e h =
     ext-getD d l (upTo f n) (e ∙ sym (upTo-length f n)) (λ i k. h i (subst (λ (m : ℕ). i < m) e k) ∙ sym (upTo-at f n i d (subst (λ (m : ℕ). i < m) e k)))
 
-pub upTo-same : {A : Type 0} (f g : ℕ → A) (n : ℕ) → ((i : ℕ) → i < n → f i ≡ g i) → upTo f n ≡ upTo g n
-unfolding upTo
-upTo-same f g zero e = refl
-upTo-same f g (suc n) e =
-    let p = e 0 (suc-le zero-le) in
-    let r = upTo-same (λ i. f (suc i)) (λ i. g (suc i)) n (λ i h. e (suc i) (suc-le h)) in
-    rw (p, r)
-
 -- each place made of the same place of another list
-pub map-at : {A B : Type 0} (f : A → B) (l : List A) (d : A) (e : B) (i : ℕ) → i < length l → getD (map f l) i e ≡ f (getD l i d)
+pub map-at : {A B : Type 0} (f : A → B) (l : List A) (d : A) (e : B) (i : ℕ) → i < length l
+    → getD (map f l) i e ≡ f (getD l i d)
 map-at f [] d e i h = absurd (not-suc-le-zero h)
 map-at f (a ∷ l) d e zero h = refl
 map-at f (a ∷ l) d e (suc i) h = map-at f l d e i (le-of-suc-le-suc h)
 
-pub is-map : {A B : Type 0} (f : A → B) (l : List A) (m : List B) (d : A) (e : B) → length m ≡ length l → ((i : ℕ) → i < length l → getD m i e ≡ f (getD l i d))
+pub is-map : {A B : Type 0} (f : A → B) (l : List A) (m : List B) (d : A) (e : B) → length m ≡ length l
+    → ((i : ℕ) → i < length l → getD m i e ≡ f (getD l i d))
     → m ≡ map f l
 is-map f l m d e long each =
     ext-getD e m (map f l) (long ∙ sym (length-map l f)) (λ i h. let k = subst (λ (n : ℕ). i < n) long h in each i k ∙ sym (map-at f l d e i k))

@@ -1,4 +1,5 @@
--- ℤ as a commutative ring: the laws that the kit's `lib.IntN` lacks. For an identity of polynomials reach for the solver instead. Assumes nothing.
+-- ℤ as a commutative ring: the laws that the kit's `lib.IntN` lacks. For an identity of polynomials
+-- reach for the solver instead. Assumes nothing.
 use mathlib.Core.Path.{_≡_}
 use native.Mathlib.Omega.{arith}
 use lib.IntN.{ℤ, pos, _+ℤ_, _*ℤ_, negℤ}

@@ -1,5 +1,6 @@
--- Floor division and nearest: the two bounds that determine each, and what follows from them. A kernel's proof shows the bounds of the number
--- that it computes and ends by `floor-is` or `nearest-is`; nothing above this file opens the two definitions. Assumes nothing.
+-- Floor division and nearest: the two bounds that determine each, and what follows from them. A
+-- kernel's proof shows the bounds of the number that it computes and ends by `floor-is` or
+-- `nearest-is`; nothing above this file opens the two definitions. Assumes nothing.
 use mathlib.Core.Path.{_≡_, sym, ap, _∙_}
 use mathlib.Core.Logic.{⊎-elim}
 use Prim.Native.Nat.{ℕ, _+_, _*_, _/_, _≤_, _<_}
@@ -65,7 +66,8 @@ moved-above d = rep₃ _ (λ a b c e f g. simp lin (omega arith))
 pub floor-plus : (x k : ℤ) (d : ℕ) → 0 < d → floorDiv (x +ℤ pos d *ℤ k) d ≡ floorDiv x d +ℤ k
 floor-plus x k d h =
     let f = floored x d h in
-    floor-is (x +ℤ pos d *ℤ k) (floorDiv x d +ℤ k) d h (record { under = moved-under d x (floorDiv x d) k (f .under); above = moved-above d x (floorDiv x d) k (f .above) })
+    floor-is (x +ℤ pos d *ℤ k) (floorDiv x d +ℤ k) d h
+    (record { under = moved-under d x (floorDiv x d) k (f .under); above = moved-above d x (floorDiv x d) k (f .above) })
 
 -- ---- nearest: 2·d·q ≤ 2z + d < 2·d·q + 2·d
 pub record Near (z : ℤ) (d : ℕ) (q : ℤ) : Type 0 where
@@ -94,14 +96,16 @@ pub nearest-order : (x y : ℤ) (d : ℕ) → 0 < d → x ≤ℤ y → nearest x
 unfolding nearest
 nearest-order x y d h l = floor-order (pos 2 *ℤ x +ℤ pos d) (pos 2 *ℤ y +ℤ pos d) (2 * d) (omega arith) (doubled d x y l)
 
-halved : (d : ℕ) (y z : ℤ) → (pos 2 *ℤ y) ≤ℤ (pos 2 *ℤ z +ℤ pos d) → (pos 2 *ℤ z +ℤ pos d) <ℤ (pos 2 *ℤ y +ℤ pos 2 *ℤ pos d) → natAbs (pos 2 *ℤ (y -ℤ z)) ≤ d
+halved : (d : ℕ) (y z : ℤ) → (pos 2 *ℤ y) ≤ℤ (pos 2 *ℤ z +ℤ pos d)
+    → (pos 2 *ℤ z +ℤ pos d) <ℤ (pos 2 *ℤ y +ℤ pos 2 *ℤ pos d) → natAbs (pos 2 *ℤ (y -ℤ z)) ≤ d
 halved d = rep₂ _ (λ a b c e. simp lin (omega arith))
 
 -- a rounding is at most a half off: |2·(d·nearest − z)| ≤ d
 pub within-half : (z : ℤ) (d : ℕ) → 0 < d → natAbs (pos 2 *ℤ (pos d *ℤ nearest z d -ℤ z)) ≤ d
 within-half z d h = let n = near z d h in halved d (pos d *ℤ nearest z d) z (n .under) (n .above)
 
-carried-under : (d : ℕ) (z q k : ℤ) → (pos 2 *ℤ (pos d *ℤ q)) ≤ℤ (pos 2 *ℤ z +ℤ pos d) → (pos 2 *ℤ (pos d *ℤ (q +ℤ k))) ≤ℤ (pos 2 *ℤ (z +ℤ pos d *ℤ k) +ℤ pos d)
+carried-under : (d : ℕ) (z q k : ℤ) → (pos 2 *ℤ (pos d *ℤ q)) ≤ℤ (pos 2 *ℤ z +ℤ pos d)
+    → (pos 2 *ℤ (pos d *ℤ (q +ℤ k))) ≤ℤ (pos 2 *ℤ (z +ℤ pos d *ℤ k) +ℤ pos d)
 carried-under d = rep₃ _ (λ a b c e f g. simp lin (omega arith))
 
 carried-above : (d : ℕ) (z q k : ℤ) → (pos 2 *ℤ z +ℤ pos d) <ℤ (pos 2 *ℤ (pos d *ℤ q) +ℤ pos 2 *ℤ pos d)
@@ -112,25 +116,18 @@ carried-above d = rep₃ _ (λ a b c e f g. simp lin (omega arith))
 pub nearest-plus : (z k : ℤ) (d : ℕ) → 0 < d → nearest (z +ℤ pos d *ℤ k) d ≡ nearest z d +ℤ k
 nearest-plus z k d h =
     let n = near z d h in
-    nearest-is (z +ℤ pos d *ℤ k) (nearest z d +ℤ k) d h (record { under = carried-under d z (nearest z d) k (n .under); above = carried-above d z (nearest z d) k (n .above) })
-
--- an exact half, k + 1/2, goes to the greater
-pub nearest-half : (z k : ℤ) (d : ℕ) → 0 < d → pos 2 *ℤ z ≡ pos 2 *ℤ (pos d *ℤ k) +ℤ pos d → nearest z d ≡ k +ℤ pos 1
-nearest-half z k d h e = nearest-is z (k +ℤ pos 1) d h (record { under = low z k e; above = high z k e })
-  where
-    low : (z k : ℤ) → pos 2 *ℤ z ≡ pos 2 *ℤ (pos d *ℤ k) +ℤ pos d → (pos 2 *ℤ (pos d *ℤ (k +ℤ pos 1))) ≤ℤ (pos 2 *ℤ z +ℤ pos d)
-    low = rep₂ _ (λ a b c e. simp lin (omega arith))
-
-    high : (z k : ℤ) → pos 2 *ℤ z ≡ pos 2 *ℤ (pos d *ℤ k) +ℤ pos d → (pos 2 *ℤ z +ℤ pos d) <ℤ (pos 2 *ℤ (pos d *ℤ (k +ℤ pos 1)) +ℤ pos 2 *ℤ pos d)
-    high = rep₂ _ (λ a b c e. simp lin (omega (arith, h)))
+    nearest-is (z +ℤ pos d *ℤ k) (nearest z d +ℤ k) d h
+    (record { under = carried-under d z (nearest z d) k (n .under); above = carried-above d z (nearest z d) k (n .above) })
 
 -- a fraction may be reduced: a common factor g goes out
 pub nearest-reduced : (z : ℤ) (d g : ℕ) → 0 < d → 0 < g → nearest (pos g *ℤ z) (g * d) ≡ nearest z d
 nearest-reduced z d g h k =
     let n = near z d h in
-    nearest-is (pos g *ℤ z) (nearest z d) (g * d) (omega (arith, mul-le-mul-right d k)) (record { under = low z (nearest z d) (n .under); above = high z (nearest z d) (n .above) })
+    nearest-is (pos g *ℤ z) (nearest z d) (g * d) (omega (arith, mul-le-mul-right d k))
+    (record { under = low z (nearest z d) (n .under); above = high z (nearest z d) (n .above) })
   where
-    low : (z q : ℤ) → (pos 2 *ℤ (pos d *ℤ q)) ≤ℤ (pos 2 *ℤ z +ℤ pos d) → (pos 2 *ℤ (pos (g * d) *ℤ q)) ≤ℤ (pos 2 *ℤ (pos g *ℤ z) +ℤ pos (g * d))
+    low : (z q : ℤ) → (pos 2 *ℤ (pos d *ℤ q)) ≤ℤ (pos 2 *ℤ z +ℤ pos d)
+        → (pos 2 *ℤ (pos (g * d) *ℤ q)) ≤ℤ (pos 2 *ℤ (pos g *ℤ z) +ℤ pos (g * d))
     low = rep₂ _ (λ a b c e. simp lin (λ h. omega (arith, mul-le-mul-right g h)))
 
     high : (z q : ℤ) → (pos 2 *ℤ z +ℤ pos d) <ℤ (pos 2 *ℤ (pos d *ℤ q) +ℤ pos 2 *ℤ pos d)
@@ -196,28 +193,33 @@ cut-under : (d half : ℕ) (x f q : ℤ) → (pos (2 * half) *ℤ q) ≤ℤ (f +
     → (pos 2 *ℤ (pos (d * (2 * half)) *ℤ q)) ≤ℤ (pos 2 *ℤ x +ℤ pos (d * (2 * half)))
 cut-under d half = rep₃ _ (λ a b c e g i. simp lin (λ h k. omega (arith, mul-le-mul-left d h)))
 
-cut-above : (d half : ℕ) (x f q : ℤ) → (f +ℤ pos half) <ℤ (pos (2 * half) *ℤ q +ℤ pos (2 * half)) → x <ℤ (pos d *ℤ f +ℤ pos d)
+cut-above : (d half : ℕ) (x f q : ℤ) → (f +ℤ pos half) <ℤ (pos (2 * half) *ℤ q +ℤ pos (2 * half))
+    → x <ℤ (pos d *ℤ f +ℤ pos d)
     → (pos 2 *ℤ x +ℤ pos (d * (2 * half))) <ℤ (pos 2 *ℤ (pos (d * (2 * half)) *ℤ q) +ℤ pos 2 *ℤ pos (d * (2 * half)))
 cut-above d half = rep₃ _ (λ a b c e g i. simp lin (λ h k. omega (arith, mul-le-mul-left d h)))
 
-pub nearest-cut : (z : ℤ) (d half : ℕ) → 0 < d → 0 < half → nearest z (d * (2 * half)) ≡ floorDiv (floorDiv z d +ℤ pos half) (2 * half)
+pub nearest-cut : (z : ℤ) (d half : ℕ) → 0 < d → 0 < half
+    → nearest z (d * (2 * half)) ≡ floorDiv (floorDiv z d +ℤ pos half) (2 * half)
 nearest-cut z d half h k =
     let f = floorDiv z d in
     let q = floorDiv (f +ℤ pos half) (2 * half) in
     let i = floored z d h in
     let o = floored (f +ℤ pos half) (2 * half) (omega arith) in
-    nearest-is z q (d * (2 * half)) (mul-pos h (omega arith)) (record { under = cut-under d half z f q (o .under) (i .under); above = cut-above d half z f q (o .above) (i .above) })
+    nearest-is z q (d * (2 * half)) (mul-pos h (omega arith))
+    (record { under = cut-under d half z f q (o .under) (i .under); above = cut-above d half z f q (o .above) (i .above) })
 
 pub nearest-twice : (z : ℤ) (d : ℕ) → 0 < d → nearest z (2 * d) ≡ floorDiv (floorDiv z d +ℤ pos 1) 2
 nearest-twice z d h = ap (nearest z) (mul-comm 2 d) ∙ nearest-cut z d 1 h (lit< tt)
 
--- ---- a product u·b with b split at d: where b = d·h + l, its floor is u·h + ⌊u·l / d⌋, and with d = 2·half its nearest is u·h + ⌊(u·l + half) / d⌋
+-- ---- a product u·b with b split at d: where b = d·h + l, its floor is u·h + ⌊u·l / d⌋, and with d
+-- = 2·half its nearest is u·h + ⌊(u·l + half) / d⌋
 split-under : (half : ℕ) (ul q uh : ℤ) → (pos (2 * half) *ℤ q) ≤ℤ (ul +ℤ pos half)
     → (pos 2 *ℤ (pos (2 * half) *ℤ (uh +ℤ q))) ≤ℤ (pos 2 *ℤ (pos (2 * half) *ℤ uh +ℤ ul) +ℤ pos (2 * half))
 split-under half = rep₃ _ (λ a b c d e f. simp lin (omega arith))
 
 split-above : (half : ℕ) (ul q uh : ℤ) → (ul +ℤ pos half) <ℤ (pos (2 * half) *ℤ q +ℤ pos (2 * half))
-    → (pos 2 *ℤ (pos (2 * half) *ℤ uh +ℤ ul) +ℤ pos (2 * half)) <ℤ (pos 2 *ℤ (pos (2 * half) *ℤ (uh +ℤ q)) +ℤ pos 2 *ℤ pos (2 * half))
+    → (pos 2 *ℤ (pos (2 * half) *ℤ uh +ℤ ul) +ℤ pos (2 * half))
+    <ℤ (pos 2 *ℤ (pos (2 * half) *ℤ (uh +ℤ q)) +ℤ pos 2 *ℤ pos (2 * half))
 split-above half = rep₃ _ (λ a b c d e f. simp lin (omega arith))
 
 split : (d u b h : ℤ) → d *ℤ (u *ℤ h) +ℤ u *ℤ (b -ℤ d *ℤ h) ≡ u *ℤ b
@@ -236,4 +238,5 @@ nearest-split u b h half k =
     let ul = u *ℤ (b -ℤ pos d *ℤ h) in
     let q = floorDiv (ul +ℤ pos half) d in
     let f = floored (ul +ℤ pos half) d (omega arith) in
-    sym (nearest-is (u *ℤ b) (u *ℤ h +ℤ q) d (omega arith) (rw (← split (pos d) u b h) (record { under = split-under half ul q (u *ℤ h) (f .under); above = split-above half ul q (u *ℤ h) (f .above) })))
+    sym (nearest-is (u *ℤ b) (u *ℤ h +ℤ q) d (omega arith)
+    (rw (← split (pos d) u b h) (record { under = split-under half ul q (u *ℤ h) (f .under); above = split-above half ul q (u *ℤ h) (f .above) })))

@@ -1,5 +1,6 @@
--- How far E moves when p does: |E_k(p) − E_k(q)| ≤ k²·H^(k−1)·|p − q| for |p|, |q| ≤ H. The quotient Q_k of the difference by p − q is carried
--- along with a companion A_k, whose Pell form grows by at most 2·H^k a step. Assumes nothing.
+-- How far E moves when p does: |E_k(p) − E_k(q)| ≤ k²·H^(k−1)·|p − q| for |p|, |q| ≤ H. The
+-- quotient Q_k of the difference by p − q is carried along with a companion A_k, whose Pell form
+-- grows by at most 2·H^k a step. Assumes nothing.
 use mathlib.Core.Path.{_≡_, sym, ap, subst}
 use Prim.Native.Nat.{ℕ, zero, suc, _+_, _*_, _-_, _^_, _≤_}
 use native.Mathlib.Omega.{arith}
@@ -12,7 +13,8 @@ use Rattle.numbers.specs.Chebyshev.{E}
 use Rattle.numbers.proofs.Chebyshev.{E-zero, E-rec, D, N, D-part, pell-step, pell-first, E-bound}
 
 -- a vector of length at most m, moved by 2x in one coordinate
-grow-id : (x y g : ℤ) → (x *ℤ x +ℤ g) +ℤ (pos 4 *ℤ (x *ℤ y) +ℤ pos 4 *ℤ (y *ℤ y)) ≡ (x +ℤ pos 2 *ℤ y) *ℤ (x +ℤ pos 2 *ℤ y) +ℤ g
+grow-id : (x y g : ℤ)
+    → (x *ℤ x +ℤ g) +ℤ (pos 4 *ℤ (x *ℤ y) +ℤ pos 4 *ℤ (y *ℤ y)) ≡ (x +ℤ pos 2 *ℤ y) *ℤ (x +ℤ pos 2 *ℤ y) +ℤ g
 grow-id = all₃ _ (λ ρ. simp (quote, q-con ρ) (ring ρ _ _ tt))
 
 grow : (x y g : ℤ) (m e : ℕ) → (x *ℤ x +ℤ g) ≤ℤ pos (m * m) → pos 0 ≤ℤ g → natAbs y ≤ e
@@ -20,7 +22,16 @@ grow : (x y g : ℤ) (m e : ℕ) → (x *ℤ x +ℤ g) ≤ℤ pos (m * m) → po
 grow x y g m e h hg hy =
     let hx = sq→abs x m (drop-r (x *ℤ x) g (pos (m * m)) hg h) in
     let small : natAbs (pos 4 *ℤ (x *ℤ y) +ℤ pos 4 *ℤ (y *ℤ y)) ≤ 4 * (m * e) + 4 * (e * e) =
-    omega (arith, abs-+ (pos 4 *ℤ (x *ℤ y)) (pos 4 *ℤ (y *ℤ y)), abs-* (pos 4) (x *ℤ y), abs-* (pos 4) (y *ℤ y), abs-* x y, abs-* y y, mul-le-mul hx hy, mul-le-mul hy hy) in
+    omega (
+      arith,
+      abs-+ (pos 4 *ℤ (x *ℤ y)) (pos 4 *ℤ (y *ℤ y)),
+      abs-* (pos 4) (x *ℤ y),
+      abs-* (pos 4) (y *ℤ y),
+      abs-* x y,
+      abs-* y y,
+      mul-le-mul hx hy,
+      mul-le-mul hy hy,
+    ) in
     let same : m * m + (4 * (m * e) + 4 * (e * e)) ≡ (m + 2 * e) * (m + 2 * e) = omega arith in
     subst (λ (z : ℤ). z ≤ℤ pos ((m + 2 * e) * (m + 2 * e))) (grow-id x y g)
     (subst (λ (n : ℕ). (x *ℤ x +ℤ g +ℤ (pos 4 *ℤ (x *ℤ y) +ℤ pos 4 *ℤ (y *ℤ y))) ≤ℤ pos n) same (+-mono _ _ _ _ h (≤abs _ _ small)))
@@ -58,7 +69,8 @@ module _ (p q : ℤ) (H : ℕ) (bp : natAbs p ≤ H) (bq : natAbs q ≤ H) where
     A = pos 1;
     now = first-now p q;
     next = first-next p q;
-    energy = subst (λ (z : ℤ). z ≤ℤ pos (((2 * 0 + 1) * H ^ 0) * ((2 * 0 + 1) * H ^ 0))) (sym (pell-first p (pos H))) (le-pos _ _ (rw (pow-zero H) (omega arith)));
+    energy = subst (λ (z : ℤ). z ≤ℤ pos (((2 * 0 + 1) * H ^ 0) * ((2 * 0 + 1) * H ^ 0))) (sym (pell-first p (pos H)))
+        (le-pos _ _ (rw (pow-zero H) (omega arith)));
     size = rw (first-size p, pow-zero H) (omega arith);
   }
 
@@ -74,8 +86,10 @@ module _ (p q : ℤ) (H : ℕ) (bp : natAbs p ≤ H) (bq : natAbs q ≤ H) where
       subst (λ (z : ℤ). z ≤ℤ pos ((H * ((2 * n + 1) * H ^ n)) * (H * ((2 * n + 1) * H ^ n)))) (sym (pell-step p (pos H) (s .A) (s .Q)))
       (subst (λ (m : ℕ). (pos (H * H) *ℤ N p (pos H) (s .A) (s .Q)) ≤ℤ pos m) same (*-mono (H * H) (N p (pos H) (s .A) (s .Q)) _ (s .energy))) in
       let en : (A' *ℤ A' +ℤ G) ≤ℤ pos (((2 * suc n + 1) * H ^ suc n) * ((2 * suc n + 1) * H ^ suc n)) =
-      let same : H * ((2 * n + 1) * H ^ n) + 2 * H ^ suc n ≡ (2 * suc n + 1) * H ^ suc n = omega (arith, pow-succ' H n, ap (λ (x : ℕ). n * x) (pow-succ' H n)) in
-      subst (λ (m : ℕ). (A' *ℤ A' +ℤ G) ≤ℤ pos (m * m)) same (grow X f G (H * ((2 * n + 1) * H ^ n)) (H ^ suc n) turned (D-part p H Q' bp) (E-bound q H (suc n) bq)) in
+      let same : H * ((2 * n + 1) * H ^ n) + 2 * H ^ suc n ≡ (2 * suc n + 1) * H ^ suc n = omega
+      (arith, pow-succ' H n, ap (λ (x : ℕ). n * x) (pow-succ' H n)) in
+      subst (λ (m : ℕ). (A' *ℤ A' +ℤ G) ≤ℤ pos (m * m)) same
+      (grow X f G (H * ((2 * n + 1) * H ^ n)) (H ^ suc n) turned (D-part p H Q' bp) (E-bound q H (suc n) bq)) in
       let a-small : natAbs A' ≤ (2 * suc n + 1) * H ^ suc n = sq→abs A' _ (drop-r (A' *ℤ A') G _ (D-part p H Q' bp) en) in
       record {
         Q = Q';
@@ -83,24 +97,36 @@ module _ (p q : ℤ) (H : ℕ) (bp : natAbs p ≤ H) (bq : natAbs q ≤ H) where
         now = s .next;
         next = rw (E-rec p (pos H) n, E-rec q (pos H) n, s .next, s .now) (quot-step p q (pos H) (s .Q) (s .A) (E q (pos H) n) f);
         energy = en;
-        size = omega (arith, abs-+ (p *ℤ Q') A', abs-* p Q', mul-le-mul bp (s .size), a-small, pow-succ' H n, ap (λ (x : ℕ). n * x) (pow-succ' H n), ap (λ (x : ℕ). n * (n * x)) (pow-succ' H n));
+        size = omega (
+          arith,
+          abs-+ (p *ℤ Q') A',
+          abs-* p Q',
+          mul-le-mul bp (s .size),
+          a-small,
+          pow-succ' H n,
+          ap (λ (x : ℕ). n * x) (pow-succ' H n),
+          ap (λ (x : ℕ). n * (n * x)) (pow-succ' H n),
+        );
       }
 
   quot : (n : ℕ) → Quot n
   quot zero = quot₀
   quot (suc n) = quot-more n (quot n)
 
-  pub lipschitz : (n : ℕ) → natAbs (E p (pos H) (suc n) -ℤ E q (pos H) (suc n)) ≤ suc n * suc n * H ^ n * natAbs (p -ℤ q)
+  pub lipschitz : (n : ℕ)
+      → natAbs (E p (pos H) (suc n) -ℤ E q (pos H) (suc n)) ≤ suc n * suc n * H ^ n * natAbs (p -ℤ q)
   lipschitz n = let s = quot n in let z = p *ℤ s .Q +ℤ s .A in
       rw (s .next, cancel (E q (pos H) (suc n)) ((p -ℤ q) *ℤ z))
       (omega (arith, abs-* (p -ℤ q) z, mul-le-mul-right (natAbs (p -ℤ q)) (s .size)))
 
 -- the same at every k, 0 too
-pub lipschitz-at : (p q : ℤ) (H : ℕ) → natAbs p ≤ H → natAbs q ≤ H → (k : ℕ) → natAbs (E p (pos H) k -ℤ E q (pos H) k) ≤ k * k * H ^ (k - 1) * natAbs (p -ℤ q)
+pub lipschitz-at : (p q : ℤ) (H : ℕ) → natAbs p ≤ H → natAbs q ≤ H → (k : ℕ)
+    → natAbs (E p (pos H) k -ℤ E q (pos H) k) ≤ k * k * H ^ (k - 1) * natAbs (p -ℤ q)
 lipschitz-at p q H bp bq zero = rw (E-zero p (pos H), E-zero q (pos H)) (omega arith)
 lipschitz-at p q H bp bq (suc n) = let e : suc n - 1 ≡ n = omega arith in rw e (lipschitz p q H bp bq n)
 
 -- how far E moves, times the radius, so that no power goes down by one
-pub E-moves : (a b : ℤ) (R : ℕ) → natAbs a ≤ R → natAbs b ≤ R → (k : ℕ) → R * natAbs (E a (pos R) k -ℤ E b (pos R) k) ≤ k * k * R ^ k * natAbs (a -ℤ b)
+pub E-moves : (a b : ℤ) (R : ℕ) → natAbs a ≤ R → natAbs b ≤ R → (k : ℕ)
+    → R * natAbs (E a (pos R) k -ℤ E b (pos R) k) ≤ k * k * R ^ k * natAbs (a -ℤ b)
 E-moves a b R ha hb zero = rw (E-zero a (pos R), E-zero b (pos R)) (omega arith)
 E-moves a b R ha hb (suc k) = omega (arith, mul-le-mul-left R (lipschitz a b R ha hb k), ap (λ (x : ℕ). suc k * suc k * x * natAbs (a -ℤ b)) (pow-succ' R k))

@@ -1,10 +1,11 @@
--- A solver for identities of polynomials over ℤ, by reflection. `quote` reads the goal, so an identity is proved in one line:
+-- A solver for identities of polynomials over ℤ, by reflection. `quote` reads the goal, so an
+-- identity is proved in one line:
 --
 --     square : (x y : ℤ) → (x +ℤ y) *ℤ (x +ℤ y) ≡ x *ℤ x +ℤ pos 2 *ℤ (x *ℤ y) +ℤ y *ℤ y
 --     square = all₂ _ (λ ρ. simp (quote, q-con ρ) (ring ρ _ _ tt))
 --
--- (`q-con ρ` is for literals such as `pos 2`.) State it over ℤ and apply it at `pos n`: a `pos n` with a variable n computes too early to be read.
--- Assumes nothing.
+-- (`q-con ρ` is for literals such as `pos 2`.) State it over ℤ and apply it at `pos n`: a `pos n`
+-- with a variable n computes too early to be read. Assumes nothing.
 use mathlib.Core.Path.{_≡_, refl, sym, _∙_, ap, ap₂}
 use mathlib.Core.List.{List, [], _∷_}
 use Prim.Native.Nat.{ℕ, zero, suc, compare, Ordering, Ordering·lt, Ordering·eq, Ordering·gt}
@@ -90,13 +91,13 @@ abbrev pub plus : Poly → Poly → Poly
 plus none q = q
 plus (more c m p) q = ins c m (plus p q)
 
-abbrev pub scale : ℤ → List ℕ → Poly → Poly → Poly
-scale c m none q = q
-scale c m (more d n p) q = ins (c *ℤ d) (join m n) (scale c m p q)
+abbrev pub times-number : ℤ → List ℕ → Poly → Poly → Poly
+times-number c m none q = q
+times-number c m (more d n p) q = ins (c *ℤ d) (join m n) (times-number c m p q)
 
 abbrev pub times : Poly → Poly → Poly
 times none q = none
-times (more c m p) q = scale c m q (times p q)
+times (more c m p) q = times-number c m q (times p q)
 
 abbrev pub minus : Poly → Poly
 minus none = none
@@ -145,7 +146,8 @@ cmp-eq [] (j ∷ n) t = absurd t
 cmp-eq (i ∷ m) [] t = absurd t
 cmp-eq (i ∷ m) (j ∷ n) t = ap₂ _∷_ (eqb→eq i j (then-eq (compare i j) (cmp m n) t .0)) (cmp-eq m n (then-eq (compare i j) (cmp m n) t .1))
 
-total-pick : (o : Ordering) (x y z : Poly) (ρ : List ℤ) (v : ℤ) → total x ρ ≡ v → (T (isEq o) → total y ρ ≡ v) → total z ρ ≡ v → total (pick₃ o x y z) ρ ≡ v
+total-pick : (o : Ordering) (x y z : Poly) (ρ : List ℤ) (v : ℤ) → total x ρ ≡ v → (T (isEq o) → total y ρ ≡ v)
+    → total z ρ ≡ v → total (pick₃ o x y z) ρ ≡ v
 total-pick Ordering·lt x y z ρ v p q r = p
 total-pick Ordering·eq x y z ρ v p q r = q tt
 total-pick Ordering·gt x y z ρ v p q r = r
@@ -155,7 +157,8 @@ unfolding total
 total-ins c m none ρ = refl
 total-ins c m (more d n p) ρ = total-pick (cmp m n) (more c m (more d n p)) (more (c +ℤ d) n p) (more d n (ins c m p)) ρ _
     refl
-    (λ t. ap (λ u. u +ℤ total p ρ) (dist-* c d (mono n ρ)) ∙ +ℤ-assoc (c *ℤ mono n ρ) (d *ℤ mono n ρ) (total p ρ) ∙ ap (λ u. c *ℤ mono u ρ +ℤ (d *ℤ mono n ρ +ℤ total p ρ)) (sym (cmp-eq m n t)))
+    (λ t. ap (λ u. u +ℤ total p ρ) (dist-* c d (mono n ρ)) ∙ +ℤ-assoc (c *ℤ mono n ρ) (d *ℤ mono n ρ) (total p ρ)
+    ∙ ap (λ u. c *ℤ mono u ρ +ℤ (d *ℤ mono n ρ +ℤ total p ρ)) (sym (cmp-eq m n t)))
     (ap (λ u. d *ℤ mono n ρ +ℤ u) (total-ins c m p ρ) ∙ +-left-comm (d *ℤ mono n ρ) (c *ℤ mono m ρ) (total p ρ))
 
 total-plus : (p q : Poly) (ρ : List ℤ) → total (plus p q) ρ ≡ total p ρ +ℤ total q ρ
@@ -167,10 +170,13 @@ total-plus (more c m p) q ρ =
 shuffle : (c d x y : ℤ) → (c *ℤ d) *ℤ (x *ℤ y) ≡ (c *ℤ x) *ℤ (d *ℤ y)
 shuffle c d x y = *-assoc c d (x *ℤ y) ∙ ap (λ u. c *ℤ u) (*-left-comm d x y) ∙ sym (*-assoc c x (d *ℤ y))
 
-total-scale : (c : ℤ) (m : List ℕ) (p q : Poly) (ρ : List ℤ) → total (scale c m p q) ρ ≡ c *ℤ mono m ρ *ℤ total p ρ +ℤ total q ρ
+total-scale : (c : ℤ) (m : List ℕ) (p q : Poly) (ρ : List ℤ)
+    → total (times-number c m p q) ρ ≡ c *ℤ mono m ρ *ℤ total p ρ +ℤ total q ρ
 unfolding total
 total-scale c m none q ρ = sym (ap (λ u. u +ℤ total q ρ) (*ℤ-zero (c *ℤ mono m ρ)) ∙ +ℤ-idl (total q ρ))
-total-scale c m (more d n p) q ρ = total-ins (c *ℤ d) (join m n) (scale c m p q) ρ ∙ ap₂ _+ℤ_ (ap (λ u. c *ℤ d *ℤ u) (mono-join m n ρ) ∙ shuffle c d (mono m ρ) (mono n ρ)) (total-scale c m p q ρ)
+total-scale c m (more d n p) q ρ =
+    total-ins (c *ℤ d) (join m n) (times-number c m p q) ρ
+    ∙ ap₂ _+ℤ_ (ap (λ u. c *ℤ d *ℤ u) (mono-join m n ρ) ∙ shuffle c d (mono m ρ) (mono n ρ)) (total-scale c m p q ρ)
     ∙ sym (+ℤ-assoc (c *ℤ mono m ρ *ℤ (d *ℤ mono n ρ)) (c *ℤ mono m ρ *ℤ total p ρ) (total q ρ))
     ∙ ap (λ u. u +ℤ total q ρ) (sym (*-dist (c *ℤ mono m ρ) (d *ℤ mono n ρ) (total p ρ)))
 
@@ -249,25 +255,30 @@ pub all₃ : (P : ℤ → ℤ → ℤ → Type 0) → ((ρ : List ℤ) → P (nt
 unfolding nth
 all₃ P f x y z = f (x ∷ y ∷ z ∷ [])
 
-pub all₄ : (P : ℤ → ℤ → ℤ → ℤ → Type 0) → ((ρ : List ℤ) → P (nth ρ 0) (nth ρ 1) (nth ρ 2) (nth ρ 3)) → (x y z w : ℤ) → P x y z w
+pub all₄ : (P : ℤ → ℤ → ℤ → ℤ → Type 0) → ((ρ : List ℤ) → P (nth ρ 0) (nth ρ 1) (nth ρ 2) (nth ρ 3)) → (x y z w : ℤ)
+    → P x y z w
 unfolding nth
 all₄ P f x y z w = f (x ∷ y ∷ z ∷ w ∷ [])
 
-pub all₅ : (P : ℤ → ℤ → ℤ → ℤ → ℤ → Type 0) → ((ρ : List ℤ) → P (nth ρ 0) (nth ρ 1) (nth ρ 2) (nth ρ 3) (nth ρ 4)) → (x y z w v : ℤ) → P x y z w v
+pub all₅ : (P : ℤ → ℤ → ℤ → ℤ → ℤ → Type 0) → ((ρ : List ℤ) → P (nth ρ 0) (nth ρ 1) (nth ρ 2) (nth ρ 3) (nth ρ 4))
+    → (x y z w v : ℤ) → P x y z w v
 unfolding nth
 all₅ P f x y z w v = f (x ∷ y ∷ z ∷ w ∷ v ∷ [])
 
-pub all₆ : (P : ℤ → ℤ → ℤ → ℤ → ℤ → ℤ → Type 0) → ((ρ : List ℤ) → P (nth ρ 0) (nth ρ 1) (nth ρ 2) (nth ρ 3) (nth ρ 4) (nth ρ 5)) → (x y z w v u : ℤ)
+pub all₆ : (P : ℤ → ℤ → ℤ → ℤ → ℤ → ℤ → Type 0)
+    → ((ρ : List ℤ) → P (nth ρ 0) (nth ρ 1) (nth ρ 2) (nth ρ 3) (nth ρ 4) (nth ρ 5)) → (x y z w v u : ℤ)
     → P x y z w v u
 unfolding nth
 all₆ P f x y z w v u = f (x ∷ y ∷ z ∷ w ∷ v ∷ u ∷ [])
 
-pub all₇ : (P : ℤ → ℤ → ℤ → ℤ → ℤ → ℤ → ℤ → Type 0) → ((ρ : List ℤ) → P (nth ρ 0) (nth ρ 1) (nth ρ 2) (nth ρ 3) (nth ρ 4) (nth ρ 5) (nth ρ 6))
+pub all₇ : (P : ℤ → ℤ → ℤ → ℤ → ℤ → ℤ → ℤ → Type 0)
+    → ((ρ : List ℤ) → P (nth ρ 0) (nth ρ 1) (nth ρ 2) (nth ρ 3) (nth ρ 4) (nth ρ 5) (nth ρ 6))
     → (x y z w v u t : ℤ) → P x y z w v u t
 unfolding nth
 all₇ P f x y z w v u t = f (x ∷ y ∷ z ∷ w ∷ v ∷ u ∷ t ∷ [])
 
-pub all₈ : (P : ℤ → ℤ → ℤ → ℤ → ℤ → ℤ → ℤ → ℤ → Type 0) → ((ρ : List ℤ) → P (nth ρ 0) (nth ρ 1) (nth ρ 2) (nth ρ 3) (nth ρ 4) (nth ρ 5) (nth ρ 6) (nth ρ 7))
+pub all₈ : (P : ℤ → ℤ → ℤ → ℤ → ℤ → ℤ → ℤ → ℤ → Type 0)
+    → ((ρ : List ℤ) → P (nth ρ 0) (nth ρ 1) (nth ρ 2) (nth ρ 3) (nth ρ 4) (nth ρ 5) (nth ρ 6) (nth ρ 7))
     → (x y z w v u t s : ℤ) → P x y z w v u t s
 unfolding nth
 all₈ P f x y z w v u t s = f (x ∷ y ∷ z ∷ w ∷ v ∷ u ∷ t ∷ s ∷ [])

@@ -1,4 +1,5 @@
--- The Chebyshev polynomials over whole numbers, with the denominators multiplied out: E p H k is H^k·T_k(p/H), and W p H k is H^k·U_k(p/H).
+-- The Chebyshev polynomials over whole numbers, with the denominators multiplied out: E p H k is
+-- H^k·T_k(p/H), and W p H k is H^k·U_k(p/H).
 use Prim.Native.Nat.{ℕ, zero, suc}
 use lib.IntN.{ℤ, pos, _-ℤ_, _*ℤ_}
 

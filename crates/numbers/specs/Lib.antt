@@ -1,3 +1,5 @@
 pub mod Rounding
 pub mod Chebyshev
 pub mod Lowest
+pub mod Tests
+pub mod Signs

@@ -1,4 +1,5 @@
--- The lowest place at which a test fails, a test of every place, and the list of what stands at each place.
+-- The lowest place at which a test fails, a test of every place, and the list of what stands at
+-- each place.
 use mathlib.Core.Bool.{Bool, true, cond, _&&_}
 use mathlib.Core.List.{List, [], _∷_}
 use Prim.Native.Nat.{ℕ, zero, suc}

@@ -1,30 +1,43 @@
--- 'Each public function's contract determines the complete answer and the final content of all lent buffers .. Any two results it admits are proved equal.'
--- It is stated of `Learnt`, which is what a caller learns from the contract itself. Every public function of every library has its line, in the order of
--- crates.txt and of the sources. Assumes nothing.
+-- 'Each public function's contract determines the complete answer and the final content of all lent
+-- buffers .. Any two results it admits are proved equal.' It is stated of `Learnt`, which is what a
+-- caller learns from the contract itself. Every public function of every library has its line, in
+-- the order of crates.txt and of the sources; but for `files` and `turns`, where the system says
+-- which bytes come. Assumes nothing.
 use mathlib.Core.Path.{_≡_, sym, _∙_, ap, ap₂}
 use mathlib.Core.List.{List, _++_}
 use Prim.Native.Nat.{ℕ}
 use lib.IntN.{ℤ}
 use lib.ListN.{take-append-drop}
 use Rattle.granule.specs.declared.Units.{Units}
-use Rattle.desk.specs.Inner.{howMany}
+use Rattle.image.specs.Image.{howMany}
 use Rattle.scales.proofs as scales
+use Rattle.linear.proofs as linear
 use Rattle.granule.proofs as granule
+use Rattle.words.proofs as words
+use Rattle.form.proofs as form
 use Rattle.image.proofs as image
+use Rattle.granules.proofs as granules
 use Rattle.blocks.proofs as blocks
+use Rattle.opened.proofs as opened
 use Rattle.ephemeris.proofs as ephemeris
 use Rattle.dates.proofs as dates
+use Rattle.walk.proofs as walk
 use Rattle.desk.proofs as desk
+use Rattle.entries.proofs as entries
+use Rattle.batch.proofs as batches
 use Rattle.line.proofs as line
+use Rattle.printing.proofs as printing
 use Rattle.lines.proofs as lines
 use Rattle.hosts.proofs as hosts
 
--- what a caller learns of a call: of its lifetimes, its arguments, its result, and its arguments as they are left
+-- what a caller learns of a call: of its lifetimes, its arguments, its result, and its arguments as
+-- they are left
 abbrev pub Contract : {K : Type 0} → (K → Type 0) → (K → Type 0) → (K → Type 0) → Type 1
 Contract {K} A R S = (κs : K) → A κs → R κs → S κs → Type 0
 
 -- of any two calls with the same arguments the same is seen
-pub record Determines {K : Type 0} {A R S B : K → Type 0} (L : Contract A R S) (seen : (κs : K) → R κs → S κs → B κs) : Type 0 where
+pub record Determines {K : Type 0} {A R S B : K → Type 0} (L : Contract A R S)
+    (seen : (κs : K) → R κs → S κs → B κs) : Type 0 where
   pub equal : (κs : K) (a : A κs) (r r' : R κs) (s s' : S κs) → L κs a r s → L κs a r' s' → seen κs r s ≡ seen κs r' s'
 
 -- where no buffer is lent to be written, that is the result
@@ -36,7 +49,8 @@ abbrev pub OneInto : {K B : Type 0} {A R S : K → Type 0} → Contract A R S �
 OneInto {K} {B} {A} {R} {S} L last = Determines {B = λ κs. R κs × B} L (λ κs r s. (r, last κs s))
 
 -- the one law: what is seen is told by the arguments
-told : {K : Type 0} {A R S B : K → Type 0} {L : Contract A R S} {seen : (κs : K) → R κs → S κs → B κs} {f : (κs : K) → A κs → B κs}
+told : {K : Type 0} {A R S B : K → Type 0} {L : Contract A R S} {seen : (κs : K) → R κs → S κs → B κs}
+    {f : (κs : K) → A κs → B κs}
     → ((κs : K) (a : A κs) (r : R κs) (s : S κs) → L κs a r s → seen κs r s ≡ f κs a) → Determines L seen
 told is = record { equal = λ κs a r r' s s' p q. is κs a r s p ∙ sym (is κs a r' s' q) }
 
@@ -46,17 +60,22 @@ equation : {K : Type 0} {A R S B : K → Type 0} {seen : (κs : K) → R κs →
 equation = told (λ κs a r s p. p)
 
 -- one of a result and a buffer tells both
-both : {K B : Type 0} {A R S : K → Type 0} {L : Contract A R S} {last : (κs : K) → S κs → B} {f : (κs : K) → A κs → R κs} {g : (κs : K) → A κs → B}
+both : {K B : Type 0} {A R S : K → Type 0} {L : Contract A R S} {last : (κs : K) → S κs → B}
+    {f : (κs : K) → A κs → R κs} {g : (κs : K) → A κs → B}
     → ((κs : K) (a : A κs) (r : R κs) (s : S κs) → L κs a r s → (r ≡ f κs a) × (last κs s ≡ g κs a)) → OneInto L last
 both is = told (λ κs a r s p. ap₂ (λ result left. (result, left)) (is κs a r s p .0) (is κs a r s p .1))
 
 -- one of units tells their number
-units : {K : Type 0} {A S : K → Type 0} {f : (κs : K) → A κs → ℤ} → One {A = A} {R = λ κs. Units} {S = S} (λ κs a r s. r .0 ≡ f κs a)
+units : {K : Type 0} {A S : K → Type 0} {f : (κs : K) → A κs → ℤ}
+    → One {A = A} {R = λ κs. Units} {S = S} (λ κs a r s. r .0 ≡ f κs a)
 units = told (λ κs a r s p. ap (λ number. record { 0 = number }) p)
 
 -- ---- scales
 pub next-step : One scales.path.next_step.Reads.Learnt
 next-step = equation
+
+pub is-one-scale : One scales.path.is_one_scale.Reads.Learnt
+is-one-scale = equation
 
 pub end-of : One scales.path.end_of.Reads.Learnt
 end-of = equation
@@ -70,35 +89,18 @@ crosses-table = equation
 pub scale-of : One scales.scale.scale_of.Reads.Learnt
 scale-of = equation
 
-pub gps-to-tai : One scales.steps.Gps.to_tai.Reads.Learnt
-gps-to-tai = equation
-
-pub tai-to-gps : One scales.steps.Tai.to_gps.Reads.Learnt
-tai-to-gps = equation
-
-pub tai-to-tt : One scales.steps.Tai.to_tt.Reads.Learnt
-tai-to-tt = equation
-
-pub tt-to-tai : One scales.steps.Tt.to_tai.Reads.Learnt
-tt-to-tai = equation
-
-pub tt-to-tcg : One scales.steps.Tt.to_tcg.Reads.Learnt
-tt-to-tcg = equation
-
-pub tcg-to-tt : One scales.steps.Tcg.to_tt.Reads.Learnt
-tcg-to-tt = equation
-
-pub tdb-to-tcb : One scales.steps.Tdb.to_tcb.Reads.Learnt
-tdb-to-tcb = equation
-
-pub tcb-to-tdb : One scales.steps.Tcb.to_tdb.Reads.Learnt
-tcb-to-tdb = equation
-
 pub valid : One scales.tick.valid.Reads.Learnt
 valid = equation
 
-pub keep : One scales.tick.keep.Reads.Learnt
+pub keep : One scales.answer.keep.Reads.Learnt
 keep = equation
+
+-- ---- linear
+pub along : One linear.steps.along.Reads.Learnt
+along = equation
+
+pub back : One linear.steps.back.Reads.Learnt
+back = equation
 
 -- ---- granule
 pub value : One granule.value.Reads.Learnt
@@ -125,21 +127,44 @@ alternating = units
 pub joined : One granule.joined.Reads.Learnt
 joined = equation
 
--- ---- image
-pub check-of : One image.check.check_of.Reads.Learnt
+-- ---- words
+pub bits-of : One words.bits_of.Reads.Learnt
+bits-of = equation
+
+pub wide : One words.wide.Reads.Learnt
+wide = told (λ κs a r s p. p .0)
+
+pub quad-at : One words.quad_at.Reads.Learnt
+quad-at = equation
+
+pub word-at : One words.word_at.Reads.Learnt
+word-at = equation
+
+pub number-at : One words.number_at.Reads.Learnt
+number-at = equation
+
+pub byte-of : One words.byte_of.Reads.Learnt
+byte-of = equation
+
+pub check-of : One words.check.check_of.Reads.Learnt
 check-of = told (λ κs a r s p. ap₂ (λ sum weighted. record { a = sum; b = weighted }) (p .0) (p .1))
 
-pub lowest-unchecked : One image.check.lowest_unchecked.Reads.Learnt
+pub lowest-unchecked : One words.check.lowest_unchecked.Reads.Learnt
 lowest-unchecked = equation
 
-pub is-free : One image.form.is_free.Reads.Learnt
+-- ---- form
+pub is-free : One form.is_free.Reads.Learnt
 is-free = equation
 
-pub fixed-byte : One image.form.fixed_byte.Reads.Learnt
+pub fixed-byte : One form.fixed_byte.Reads.Learnt
 fixed-byte = equation
 
-pub lowest-unformed : One image.form.lowest_unformed.Reads.Learnt
+pub lowest-unformed : One form.lowest_unformed.Reads.Learnt
 lowest-unformed = equation
+
+-- ---- image
+pub bounded : One image.bounds.bounded.Reads.Learnt
+bounded = equation
 
 pub put-image : Determines image.put.put_image.Reads.Learnt (λ κs r s. s .0 .now)
 put-image = equation
@@ -153,21 +178,29 @@ stored = equation
 pub take-coefficients : Determines image.take.take_coefficients.Reads.Learnt (λ κs r s. s .1 .1 .1 .0 .now)
 take-coefficients = equation
 
--- ---- blocks
-pub blocks-refused : One blocks.answer.refused.Reads.Learnt
-blocks-refused = equation
+-- ---- granules
+pub test-stored : One granules.test_stored.Reads.Learnt
+test-stored = equation
 
+pub test-listed : One granules.test_listed.Reads.Learnt
+test-listed = equation
+
+-- ---- blocks
 pub judge : One blocks.judging.judge.Reads.Learnt
 judge = equation
 
 pub read : OneInto blocks.reading.read.Reads.Learnt (λ κs s. s .1 .0 .now)
 read = both (λ κs a r s p. (p .answer, p .list))
 
-pub coefficients-of : One blocks.reading.coefficients_of.Reads.Learnt
-coefficients-of = equation
-
 pub write : OneInto blocks.writing.write.Reads.Learnt (λ κs s. s .1 .1 .1 .1 .1 .0 .now)
 write = both (λ κs a r s p. (p .answer, p .buffer))
+
+-- ---- opened
+pub how-many : One opened.how_many.Reads.Learnt
+how-many = equation
+
+pub taken : One opened.taken.Reads.Learnt
+taken = told (λ κs a r s p. sym (take-append-drop (howMany (a .1 .0)) r) ∙ ap₂ _++_ (p .front) (p .behind))
 
 -- ---- ephemeris
 pub tt-to-tdb : One ephemeris.over.OverTt.to_tdb.Reads.Learnt
@@ -189,12 +222,16 @@ read-date = equation
 pub write-date : One dates.writing.write_date.Reads.Learnt
 write-date = equation
 
+-- ---- walk
+pub take-step : One walk.step.take_step.Reads.Learnt
+take-step = equation
+
+pub walk-on : One walk.walk.walk.Reads.Learnt
+walk-on = equation
+
 -- ---- desk
 pub asked-of : One desk.asked.asked_of.Reads.Learnt
 asked-of = equation
-
-pub batch : OneInto desk.batch.batch.Reads.Learnt (λ κs s. s .1 .1 .1 .0 .now)
-batch = both (λ κs a r s p. (p .answer, p .list))
 
 pub between : One desk.conversion.between.Reads.Learnt
 between = equation
@@ -205,14 +242,13 @@ convert = equation
 pub convert-judged : One desk.conversion.convert_judged.Reads.Learnt
 convert-judged = equation
 
-pub how-many : One desk.opened.how_many.Reads.Learnt
-how-many = equation
+-- ---- entries
+pub batch-over : OneInto entries.batch_over.Reads.Learnt (λ κs s. s .1 .1 .1 .0 .now)
+batch-over = both (λ κs a r s p. (p .is, p .list))
 
-pub taken : One desk.opened.taken.Reads.Learnt
-taken = told (λ κs a r s p. sym (take-append-drop (howMany (a .1 .0)) r) ∙ ap₂ _++_ (p .front) (p .behind))
-
-pub walk : One desk.walk.walk.Reads.Learnt
-walk = equation
+-- ---- batch
+pub batch : OneInto batches.batch.Reads.Learnt (λ κs s. s .1 .1 .1 .0 .now)
+batch = both (λ κs a r s p. (p .answer, p .list))
 
 -- ---- line
 pub read-line : One line.reading.read_line.Reads.Learnt
@@ -221,13 +257,11 @@ read-line = equation
 pub code-of : One line.reading.code_of.Reads.Learnt
 code-of = equation
 
-pub write-answer : OneInto line.writing.write_answer.Reads.Learnt (λ κs s. s .0 .now)
-write-answer = both (λ κs a r s p. (p .after, p .holds))
-
-pub write-refused : OneInto line.writing.write_refused.Reads.Learnt (λ κs s. s .0 .now)
+-- ---- printing
+pub write-refused : OneInto printing.writing.write_refused.Reads.Learnt (λ κs s. s .0 .now)
 write-refused = both (λ κs a r s p. (p .after, p .holds))
 
-pub write-line : OneInto line.writing.write_line.Reads.Learnt (λ κs s. s .0 .now)
+pub write-line : OneInto printing.writing.write_line.Reads.Learnt (λ κs s. s .0 .now)
 write-line = both (λ κs a r s p. (p .after, p .holds))
 
 -- ---- lines
@@ -239,18 +273,6 @@ pub answer-last : OneInto lines.answer_last.Reads.Learnt (λ κs s. s .1 .1 .1 .
 answer-last = both (λ κs a r s p. (p .after, p .holds))
 
 -- ---- hosts
-pub table-answer : One hosts.answers.table_answer.Reads.Learnt
-table-answer = equation
-
-pub hosts-refused : One hosts.answers.refused.Reads.Learnt
-hosts-refused = equation
-
-pub refused-by : One hosts.answers.refused_by.Reads.Learnt
-refused-by = equation
-
-pub done-answer : One hosts.answers.done_answer.Reads.Learnt
-done-answer = equation
-
 pub colliedash-convert-ticks : One hosts.conversions.colliedash_convert_ticks.Reads.Learnt
 colliedash-convert-ticks = equation
 

@@ -1,4 +1,5 @@
--- P1 to P13 of 'Known values', in one statement, computed over the definitions that the contracts cite. Assumes nothing.
+-- P1 to P13 of 'Known values', in one statement, computed over the definitions that the contracts
+-- cite. Assumes nothing.
 use mathlib.Core.Path.{_≡_, refl, sym, _∙_, ap}
 use mathlib.Core.List.{[], _∷_}
 use Prim.Native.Nat.{ℕ}
@@ -7,31 +8,37 @@ use lib.IntN.{ℤ, pos, negsuc, _+ℤ_, _-ℤ_, _*ℤ_}
 use Rattle.numbers.specs.Lowest.{lowest}
 use Rattle.numbers.specs.Rounding.{floorDiv, nearest}
 use Rattle.numbers.proofs.Differences.{rep, lin}
-use Rattle.scales.specs.Linear.{exact, nearestTick, step}
-use Rattle.scales.specs.Tick.{isValid, kept}
+use Rattle.scales.specs.declared.answer.Stepped.the-variants.{Reached}
+use Rattle.scales.specs.declared.scale.Scale.the-variants.{Tt, Tdb}
+use Rattle.scales.specs.Answers.{keptIn}
+use Rattle.scales.specs.Linear.{exact, nearestTick}
+use Rattle.scales.specs.Rows.{lineStep}
+use Rattle.scales.specs.Tick.{isValid}
 use Rattle.granule.specs.Rule.{unitsInTick, scale, pOf, uOf, bFrom, bAt, vOf, delayOf, valueAt, delayAt}
 use Rattle.granule.specs.Tests.{isSmall, weightFrom, weightOf, isLight}
 use Rattle.blocks.specs.declared.answer.Judged.the-variants.{Accepted}
-use Rattle.blocks.specs.Bounds.{isBounded}
+use Rattle.image.specs.Bounds.{isBounded}
 use Rattle.blocks.specs.Judging.{judged, writeJudged, readInto}
-use Rattle.blocks.specs.Tests.{judgedBy, granuleIn, isJoin}
+use Rattle.image.specs.Image.{granuleIn}
+use Rattle.granules.specs.Tests.{isJoin}
+use Rattle.numbers.specs.Tests.{verdict}
 use Rattle.blocks.proofs.Taking.{is-new}
 use Rattle.blocks.proofs.RoundTrip.{written-accepted, written-read}
-use Rattle.ephemeris.specs.declared.over.TdbByTable.the-variants as Tdb
-use Rattle.ephemeris.specs.declared.over.TtByTable.the-variants as Tt
 use Rattle.ephemeris.specs.Accepted as table
-use Rattle.ephemeris.specs.Steps.{keptTdb, tdbStep, ttStep}
-use Rattle.ephemeris.specs.Table.{lastPlace, tickAt, isInside, placeOf, granuleOf, placeIn, coefficientsOf, tableDelay, tdbOf, tdbAt, earliestPlace, ttOf, isCovered}
+use Rattle.ephemeris.specs.Steps.{tdbStep, ttStep}
+use Rattle.ephemeris.specs.Table.{lastPlace, tickAt, isInside, placeOf, granuleOf, placeIn, coefficientsOf, tableDelay, tdbOf, tdbAt, earliestPlace, ttOf}
+use Rattle.ephemeris.specs.Table.{isCovered}
 use Rattle.ephemeris.proofs.Search.{earliest-is}
 use Rattle.dates.specs.Doubles.{numerator, denominator, beyond}
 use Rattle.dates.specs.Readings.{inRange, readOf}
 use Rattle.dates.specs.Ticks as ticks
-use Rattle.desk.specs.Asked.{askedOf}
-use Rattle.desk.specs.Conversion.{betweenOf, convertJudged, coefficientsIn, convertOf}
-use Rattle.desk.specs.Walk.{walkOf}
-use Rattle.promises.specs.Words.{heldBy}
+use Rattle.desk.specs.Order.{settled}
+use Rattle.opened.specs.Opened.{coefficientsIn}
+use Rattle.desk.specs.Conversion.{betweenOf, convertJudged, convertOf}
+use Rattle.walk.specs.Walk.{walkOf}
+use Rattle.desk.specs.Conversion.{heldBy}
 use Rattle.promises.specs.Known.{knownTable, knownCoefficients, knownBytes, AllHold, rows}
-use Rattle.promises.proofs.Walks.{held}
+use Rattle.promises.proofs.Walks.{bytes-held}
 
 -- ---- 'n=0': D is c_0 rounded to ticks, at every place
 nothing : (u : ℤ) → u *ℤ pos 0 ≡ pos 0
@@ -42,11 +49,12 @@ alone = rep _ (λ a b. simp lin (omega arith))
 
 constant : (c : ℤ) (place H : ℕ) → delayAt (c ∷ []) place H ≡ nearest c unitsInTick
 unfolding delayAt delayOf valueAt vOf bAt bFrom nearest floorDiv
-constant c place H = ap (λ (z : ℤ). nearest (c +ℤ nearest z scale -ℤ pos 0) unitsInTick) (nothing (uOf (pOf place H) H)) ∙ ap (λ (z : ℤ). nearest z unitsInTick) (alone c)
+constant c place H =
+    ap (λ (z : ℤ). nearest (c +ℤ nearest z scale -ℤ pos 0) unitsInTick) (nothing (uOf (pOf place H) H)) ∙ ap (λ (z : ℤ). nearest z unitsInTick) (alone c)
 
 -- ---- the table of P10 and P11: writing accepts it, so its bytes are accepted, and hold it
 written : writeJudged knownTable knownCoefficients 1024 ≡ Accepted knownTable
-unfolding knownTable knownCoefficients writeJudged judgedBy isBounded isValid granuleIn isSmall isLight weightOf weightFrom isJoin lowest
+unfolding knownTable knownCoefficients writeJudged verdict isBounded isValid granuleIn isSmall isLight weightOf weightFrom isJoin lowest
 written = refl
 
 pub known-judged : judged knownBytes ≡ Accepted knownTable
@@ -62,7 +70,8 @@ known-held =
 -- TDB at the first tick, at the last and at the one before it
 ends : (tdbAt knownTable knownCoefficients 0 ≡ pos 1) × (tdbAt knownTable knownCoefficients 999999999 ≡ pos 999999998)
     × (tdbAt knownTable knownCoefficients 1000000000 ≡ pos 999999999)
-unfolding knownTable knownCoefficients tdbAt tdbOf tickAt placeOf tableDelay coefficientsOf granuleOf placeIn delayAt delayOf valueAt vOf bAt bFrom uOf pOf nearest floorDiv
+unfolding knownTable knownCoefficients tdbAt tdbOf tickAt placeOf tableDelay granuleIn granuleOf placeIn delayAt delayOf valueAt vOf bAt bFrom uOf pOf nearest
+    floorDiv
 ends = (refl, refl, refl)
 
 -- the way back is not searched through: the tick is reached, and the one before is not
@@ -71,24 +80,29 @@ unfolding lastPlace knownTable
 last-place = refl
 
 accepted : table.Accepted knownTable knownCoefficients
-accepted = rw known-held at (held knownBytes .accepted knownTable (ap heldBy known-judged))
+accepted = rw known-held at (bytes-held knownBytes .accepted knownTable (ap heldBy known-judged))
 
 first-earliest : earliestPlace knownTable knownCoefficients (pos 1) ≡ 0
-first-earliest = earliest-is knownTable knownCoefficients (pos 1) accepted 0 (omega arith) (λ l. rw (ends .0) (record { le = tt })) (λ j e. let never : ⊥ = omega arith in absurd never)
+first-earliest =
+    earliest-is knownTable knownCoefficients (pos 1) accepted 0 (omega arith) (λ l. rw (ends .0) (record { le = tt }))
+    (λ j e. let never : ⊥ = omega arith in absurd never)
 
 last-earliest : earliestPlace knownTable knownCoefficients (pos 999999999) ≡ 1000000000
-last-earliest = earliest-is knownTable knownCoefficients (pos 999999999) accepted 1000000000 (omega (arith, last-place)) (λ l. rw (ends .2) (record { le = tt }))
+last-earliest =
+    earliest-is knownTable knownCoefficients (pos 999999999) accepted 1000000000 (omega (arith, last-place)) (λ l. rw (ends .2) (record { le = tt }))
     (λ j e. let f : j ≡ 999999999 = omega arith in rw (f, ends .1) (record { lt = tt }))
 
 -- the step over that table, there and back, from its first tick and from its last
 pub record Over : Type 0 where
-  pub first : tdbStep knownTable knownCoefficients (pos 0) ≡ Tdb.Reached (record { 0 = pos 1 })
-  pub last : tdbStep knownTable knownCoefficients (pos 1000000000) ≡ Tdb.Reached (record { 0 = pos 999999999 })
-  pub first-back : ttStep knownTable knownCoefficients (pos 1) ≡ Tt.Reached (record { 0 = pos 0 })
-  pub last-back : ttStep knownTable knownCoefficients (pos 999999999) ≡ Tt.Reached (record { 0 = pos 1000000000 })
+  pub first : tdbStep knownTable knownCoefficients (pos 0) ≡ Reached (record { scale = Tdb; tick = pos 1 })
+  pub last : tdbStep knownTable knownCoefficients (pos 1000000000)
+      ≡ Reached (record { scale = Tdb; tick = pos 999999999 })
+  pub first-back : ttStep knownTable knownCoefficients (pos 1) ≡ Reached (record { scale = Tt; tick = pos 0 })
+  pub last-back : ttStep knownTable knownCoefficients (pos 999999999)
+      ≡ Reached (record { scale = Tt; tick = pos 1000000000 })
 
 pub over-known : Over
-unfolding tdbStep keptTdb isInside isValid tdbAt ttStep isCovered ttOf knownTable tickAt lastPlace
+unfolding tdbStep keptIn isInside isValid tdbAt ttStep isCovered ttOf knownTable tickAt lastPlace
 over-known = record {
   first = rw (ends .0);
   last = rw (ends .2);
@@ -102,7 +116,8 @@ _and_ : {A B : Type 0} → A → B → A × B
 a and b = (a, b)
 
 pub known : AllHold rows
-unfolding convertOf convertJudged askedOf betweenOf readOf inRange walkOf step kept isValid nearestTick exact nearest floorDiv ticks.tickOfDate ticks.nearestTick numerator denominator beyond
+unfolding convertOf convertJudged settled betweenOf readOf inRange walkOf lineStep keptIn isValid nearestTick exact nearest floorDiv ticks.tickOfDate
+    ticks.ticksRounded numerator denominator beyond
 known =
     -- P1 to P6
     refl and refl and refl and refl and refl and refl and refl and refl and refl

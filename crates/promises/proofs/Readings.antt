@@ -5,14 +5,14 @@ use Prim.Native.Nat.{ℕ}
 use native.Mathlib.Omega.{arith}
 use lib.Ieee.Scale.{finite}
 use lib.IntN.{ℤ}
-use Rattle.scales.specs.declared.answer.Refusal.{Refusal}
+use Rattle.scales.specs.declared.refusal.Refusal.{Refusal}
 use Rattle.scales.specs.Tick.{isValid}
 use Rattle.dates.specs.declared.reading.Read.{Read}
 use Rattle.dates.specs.declared.reading.Read.the-variants as R
 use Rattle.dates.specs.declared.reading.Reading.{Reading}
 use Rattle.dates.specs.declared.reading.Reading.the-variants.{TwoPart, SinceJ2000, Ticks}
 use Rattle.dates.specs.Doubles.{beyond}
-use Rattle.dates.specs.Readings.{mostDays, mostSeconds, refusedWith, refusing, inRange, readOf}
+use Rattle.dates.specs.Readings.{mostDays, mostSeconds, refusedWith, refusedIf, inRange, readOf}
 use Rattle.dates.specs.Ticks.{tickOfDate, tickOfSeconds}
 
 -- a tick is no refusal
@@ -21,7 +21,8 @@ unread e = let z : _≡_ {A = ℕ} 0 1 = cc in let no : ⊥ = omega arith in abs
 
 -- ---- what holds of each of them holds of what is read
 module _ (Q : Read → Type 0) where
-  either : (test : Bool) (number place : ℕ) (otherwise : Read) → Q (refusedWith number place) → Q otherwise → Q (refusing test number place otherwise)
+  either : (test : Bool) (number place : ℕ) (otherwise : Read) → Q (refusedWith number place) → Q otherwise
+      → Q (refusedIf test number place otherwise)
   either true number place otherwise q rest = q
   either false number place otherwise q rest = rest
 
@@ -30,22 +31,24 @@ module _ (Q : Read → Type 0) where
     unfolding inRange
     in-range tick = by (isValid tick) refl
       where
-        by : (valid : Bool) → isValid tick ≡ valid → Q (refusing (not valid) 4 0 (R.Tick tick))
+        by : (valid : Bool) → isValid tick ≡ valid → Q (refusedIf (not valid) 4 0 (R.Tick tick))
         by true v = q tick v
         by false v = q4
 
-    pub reading-cases : Q (refusedWith 2 0) → Q (refusedWith 2 1) → Q (refusedWith 3 0) → Q (refusedWith 3 1) → (reading : Reading) → Q (readOf reading)
+    pub reading-cases : Q (refusedWith 2 0) → Q (refusedWith 2 1) → Q (refusedWith 3 0) → Q (refusedWith 3 1)
+        → (reading : Reading) → Q (readOf reading)
     unfolding readOf
     reading-cases q20 q21 q30 q31 (TwoPart first second) =
         let in4 = inRange (tickOfDate first second) in
-        let in31 = refusing (beyond mostDays second) 3 1 in4 in
-        let in30 = refusing (beyond mostDays first) 3 0 in31 in
-        let in21 = refusing (not (finite second)) 2 1 in30 in
+        let in31 = refusedIf (beyond mostDays second) 3 1 in4 in
+        let in30 = refusedIf (beyond mostDays first) 3 0 in31 in
+        let in21 = refusedIf (not (finite second)) 2 1 in30 in
         either (not (finite first)) 2 0 in21 q20
-        (either (not (finite second)) 2 1 in30 q21 (either (beyond mostDays first) 3 0 in31 q30 (either (beyond mostDays second) 3 1 in4 q31 (in-range (tickOfDate first second)))))
+        (either (not (finite second)) 2 1 in30 q21
+        (either (beyond mostDays first) 3 0 in31 q30 (either (beyond mostDays second) 3 1 in4 q31 (in-range (tickOfDate first second)))))
     reading-cases q20 q21 q30 q31 (SinceJ2000 seconds) =
         let in4 = inRange (tickOfSeconds seconds) in
-        let in30 = refusing (beyond mostSeconds seconds) 3 0 in4 in
+        let in30 = refusedIf (beyond mostSeconds seconds) 3 0 in4 in
         either (not (finite seconds)) 2 0 in30 q20 (either (beyond mostSeconds seconds) 3 0 in4 q30 (in-range (tickOfSeconds seconds)))
     reading-cases q20 q21 q30 q31 (Ticks tick) = in-range tick
 
@@ -62,5 +65,8 @@ module _ (P : Refusal → Type 0) where
   told : (number place : ℕ) → Told number place → (r : Refusal) → refusedWith number place ≡ R.Refused r → P r
   told number place p r e = let same : record { number = number; place = place } ≡ r = cc in subst P same p
 
-  pub reading-told : (reading : Reading) → Told 2 0 → Told 2 1 → Told 3 0 → Told 3 1 → Told 4 0 → (r : Refusal) → readOf reading ≡ R.Refused r → P r
-  reading-told reading p20 p21 p30 p31 p4 = reading-cases (λ read. (r : Refusal) → read ≡ R.Refused r → P r) (told 4 0 p4) (λ tick v r e. unread (sym e)) (told 2 0 p20) (told 2 1 p21) (told 3 0 p30) (told 3 1 p31) reading
+  pub reading-told : (reading : Reading) → Told 2 0 → Told 2 1 → Told 3 0 → Told 3 1 → Told 4 0 → (r : Refusal)
+      → readOf reading ≡ R.Refused r → P r
+  reading-told reading p20 p21 p30 p31 p4 =
+      reading-cases (λ read. (r : Refusal) → read ≡ R.Refused r → P r) (told 4 0 p4) (λ tick v r e. unread (sym e)) (told 2 0 p20) (told 2 1 p21) (told 3 0 p30)
+      (told 3 1 p31) reading

@@ -1,40 +1,47 @@
--- Each conversion is answered or refused, never both; a refusal tells one of the page's numbers with its place, and carries no tick. Assumes nothing.
+-- Each conversion is answered or refused, never both; a refusal tells one of the page's numbers
+-- with its place, and carries no tick. Assumes nothing.
 use mathlib.Core.Path.{_≡_, refl, sym, _∙_, ap, subst}
 use mathlib.Core.Logic.{_⊎_, inl, inr}
 use mathlib.Core.Bool.{Bool, true, false, cond, not}
 use mathlib.Core.List.{List, [], _∷_, _++_}
 use Prim.Native.Nat.{ℕ, suc, _≤_}
 use native.Mathlib.Omega.{arith}
-use lib.Dec.{leb, ltb, lit≤}
+use lib.Dec.{ltb, lit≤}
 use lib.IntN.{ℤ, pos}
 use lib.ListN.{length}
 use Rattle.numbers.proofs.Flags.{never, or-right}
 use Rattle.scales.specs.declared.answer.Answer.{Answer}
 use Rattle.scales.specs.declared.answer.Answer.the-variants.{Converted, Refused}
 use Rattle.scales.specs.declared.answer.Epoch.{Epoch}
-use Rattle.scales.specs.declared.answer.Refusal.{Refusal}
+use Rattle.scales.specs.declared.refusal.Refusal.{Refusal}
 use Rattle.scales.specs.declared.path.Step.{Step}
 use Rattle.scales.specs.declared.scale.Scale.{Scale}
-use Rattle.scales.specs.Answers.{tickOf, stepsOf}
-use Rattle.scales.specs.Path.{path, overTable, anyOverTable, crosses}
+use Rattle.scales.specs.Answers.{answerTick, answerSteps}
+use Rattle.scales.specs.Path.{path, anyOverTable, crosses}
+use Rattle.scales.specs.Rows.{overTable}
 use Rattle.scales.proofs.Paths.{each}
 use Rattle.image.specs.declared.table.Table.{Table}
 use Rattle.blocks.specs.declared.answer.Judged.the-variants as J
 use Rattle.blocks.specs.Answers as blocks
-use Rattle.blocks.specs.Tests.{Test, failsAt, judgedBy}
-use Rattle.blocks.specs.Judging.{judged}
+use Rattle.numbers.specs.Tests.{Test, failsAt, verdict}
+use Rattle.blocks.specs.Judging.{judgedBy, judged}
 use Rattle.dates.specs.declared.reading.Read.the-variants as R
 use Rattle.dates.specs.declared.reading.Reading.{Reading}
 use Rattle.dates.specs.Readings.{readOf}
-use Rattle.desk.specs.declared.step.Stepped.the-variants.{OutsideTable, OutsideRange}
-use Rattle.desk.specs.declared.walk.Kept.{Kept}
-use Rattle.desk.specs.Asked.{askedOf}
-use Rattle.desk.specs.Conversion.{convertAsked, convertJudged, coefficientsIn, convertOf}
-use Rattle.desk.proofs.Steps.{steps-are}
-use Rattle.promises.specs.Words.{named, tableIn}
-use Rattle.promises.specs.Reasons.{Stopped, StoppedBetween, EndedBetween, outside-table, outside-range, Because, by-from, by-to, by-table, by-reading, by-walk, stepsToTable, overOnce, toldNumbers, isAmong}
+use Rattle.scales.specs.declared.answer.Stepped.the-variants.{OutsideTable, OutsideRange}
+use Rattle.walk.specs.declared.kept.Kept.{Kept}
+use Rattle.desk.specs.Order.{settled}
+use Rattle.opened.specs.Opened.{coefficientsIn}
+use Rattle.desk.specs.Conversion.{convertJudged, convertOf}
+use Rattle.desk.proofs.Asking.{between-unseen}
+use Rattle.walk.proofs.Steps.{steps-are}
+use Rattle.scales.specs.Scales.{named}
+use Rattle.promises.specs.Words.{tableIn}
+use Rattle.promises.specs.Words.{startOf}
+use Rattle.promises.specs.Reasons.{Stopped, StoppedBetween, EndedBetween, outside-table, outside-range, Because, by-from, by-to, by-table, by-reading}
+use Rattle.promises.specs.Reasons.{by-walk, stepsToTable, overOnce, toldNumbers, isAmong}
 use Rattle.promises.proofs.Readings.{reading-told}
-use Rattle.promises.proofs.Walks.{apart, coded}
+use Rattle.promises.proofs.Walks.{apart}
 use Rattle.promises.proofs.Steps.{step-outside}
 use Rattle.promises.proofs.Reasons.{because}
 
@@ -46,16 +53,18 @@ module _ (P : ℕ → Type 0) where
   All (x ∷ xs) = P (x .number) × All xs
 
   tests-number : (xs : List Test) (t : Table) (r : Refusal) → All xs → judgedBy xs t ≡ J.Refused r → P (r .number)
-  unfolding judgedBy blocks.numberOf
+  unfolding verdict blocks.judgedNumber
   tests-number [] t r a e = let z : _≡_ {A = ℕ} 0 1 = cc in let no : ⊥ = omega arith in absurd no
   tests-number (x ∷ xs) t r a e = by (tests-number xs t r (a .1)) (ltb (failsAt x) (x .places)) e
     where
-      by : (judgedBy xs t ≡ J.Refused r → P (r .number)) → (fails : Bool) → cond fails (blocks.refusing (x .number) (failsAt x)) (judgedBy xs t) ≡ J.Refused r
+      by : (judgedBy xs t ≡ J.Refused r → P (r .number)) → (fails : Bool)
+          → cond fails (blocks.judgedRefused (x .number) (failsAt x)) (judgedBy xs t) ≡ J.Refused r
           → P (r .number)
-      by rest true e = subst P (ap blocks.numberOf e) (a .0)
+      by rest true e = subst P (ap blocks.judgedNumber e) (a .0)
       by rest false e = rest e
 
-  table-number : (bytes : List ℕ) (r : Refusal) → P 10 → P 11 → P 12 → P 13 → P 14 → P 15 → P 16 → judged bytes ≡ J.Refused r → P (r .number)
+  table-number : (bytes : List ℕ) (r : Refusal) → P 10 → P 11 → P 12 → P 13 → P 14 → P 15 → P 16
+      → judged bytes ≡ J.Refused r → P (r .number)
   unfolding judged
   table-number bytes r p10 p11 p12 p13 p14 p15 p16 e = tests-number _ _ r (p10, (p11, (p12, (p13, (p12, (p14, (p15, (p16, tt)))))))) e
 
@@ -74,48 +83,56 @@ once = each _
     (each _ refl refl refl refl refl refl)
     (each _ refl refl refl refl refl refl)
 
-any-over : (before : List Step) (last : Step) (after : List Step) → overTable last ≡ true → anyOverTable (before ++ last ∷ after) ≡ true
+any-over : (before : List Step) (last : Step) (after : List Step) → overTable last ≡ true
+    → anyOverTable (before ++ last ∷ after) ≡ true
 any-over [] last after e = rw e
 any-over (step ∷ before) last after e = or-right (overTable step) (any-over before last after e)
 
-so-many-before : (before : List Step) (last : Step) (after : List Step) → overTable last ≡ true → overOnce (before ++ last ∷ after) ≡ true
+so-many-before : (before : List Step) (last : Step) (after : List Step) → overTable last ≡ true
+    → overOnce (before ++ last ∷ after) ≡ true
     → stepsToTable (before ++ last ∷ after) ≡ length before
 so-many-before [] last after e o = rw e
 so-many-before (step ∷ before) last after e o = by (so-many-before before last after e) (overTable step) o
   where
-    by : (overOnce (before ++ last ∷ after) ≡ true → stepsToTable (before ++ last ∷ after) ≡ length before) → (over : Bool)
+    by : (overOnce (before ++ last ∷ after) ≡ true → stepsToTable (before ++ last ∷ after) ≡ length before)
+        → (over : Bool)
         → cond over (not (anyOverTable (before ++ last ∷ after))) (overOnce (before ++ last ∷ after)) ≡ true
         → cond over 0 (suc (stepsToTable (before ++ last ∷ after))) ≡ suc (length before)
     by rest true o = never (rw (any-over before last after e) at o)
     by rest false o = ap suc (rest o)
 
-stopped-over : (kept : Kept) (cs : List ℤ) (p : List Step) (scale : Scale) (tick : ℤ) (done : ℕ) → overOnce p ≡ true
-    → Stopped kept cs p scale 0 tick done OutsideTable → done ≡ stepsToTable p
-stopped-over kept cs p scale tick done o s =
-    let many = steps-are kept cs (s .before) scale 0 tick (s .walked) in
+stopped-over : (kept : Kept) (cs : List ℤ) (p : List Step) (start : Epoch) (done : ℕ) → overOnce p ≡ true
+    → Stopped kept cs p 0 start done OutsideTable → done ≡ stepsToTable p
+stopped-over kept cs p start done o s =
+    let many = steps-are kept cs (s .before) 0 start (s .walked) in
     let so = so-many-before (s .before) (s .last) (s .after) (step-outside kept cs (s .epoch .tick) (s .last) (s .stopped)) (rw (s .split) at o) in
     rw (s .split, so) (omega arith)
 
 -- ---- 'get an answer or a numbered refusal': any answer is one of the two, and none is both
-pub answered-or-refused : (answer : Answer) → ((epoch : Epoch) × (steps : ℕ) × (answer ≡ Converted epoch steps)) ⊎ ((r : Refusal) × (answer ≡ Refused r))
+pub answered-or-refused : (answer : Answer)
+    → ((epoch : Epoch) × (steps : ℕ) × (answer ≡ Converted epoch steps)) ⊎ ((r : Refusal) × (answer ≡ Refused r))
 answered-or-refused (Converted epoch steps) = inl (epoch, steps, refl)
 answered-or-refused (Refused r) = inr (r, refl)
 
-pub never-both : (answer : Answer) (epoch : Epoch) (steps : ℕ) (r : Refusal) → answer ≡ Converted epoch steps → answer ≡ Refused r → ⊥
+pub never-both : (answer : Answer) (epoch : Epoch) (steps : ℕ) (r : Refusal) → answer ≡ Converted epoch steps
+    → answer ≡ Refused r → ⊥
 never-both answer epoch steps r a e = apart (sym e ∙ a)
 
 -- ---- a refused conversion, of any codes and reading over any table bytes
-module _ (from to : ℕ) (reading : Reading) (bytes : List ℕ) (r : Refusal) (refused : convertOf from to reading bytes ≡ Refused r) where
+module _ (from to : ℕ) (reading : Reading) (bytes : List ℕ) (r : Refusal)
+    (refused : convertOf from to reading bytes ≡ Refused r) where
   -- 'A refusal carries no tick', and no steps
-  pub carries-nothing : (tickOf (convertOf from to reading bytes) ≡ pos 0) × (stepsOf (convertOf from to reading bytes) ≡ 0)
-  unfolding tickOf stepsOf
-  carries-nothing = (ap tickOf refused, ap stepsOf refused)
+  pub carries-nothing : (answerTick (convertOf from to reading bytes) ≡ pos 0)
+      × (answerSteps (convertOf from to reading bytes) ≡ 0)
+  unfolding answerTick answerSteps
+  carries-nothing = (ap answerTick refused, ap answerSteps refused)
 
   -- its number is 1, 2, 3, 4, 6 or one of 10 to 16
   pub told-number : isAmong toldNumbers (r .number) ≡ true
   told-number = by (because from to reading bytes r refused)
     where
-      of : (number : ℕ) → isAmong toldNumbers number ≡ true → r .number ≡ number → isAmong toldNumbers (r .number) ≡ true
+      of : (number : ℕ) → isAmong toldNumbers number ≡ true → r .number ≡ number
+          → isAmong toldNumbers (r .number) ≡ true
       of number e n = rw n e
 
       ended : (tick : ℤ) → EndedBetween from to bytes tick r → isAmong toldNumbers (r .number) ≡ true
@@ -149,11 +166,12 @@ module _ (from to : ℕ) (reading : Reading) (bytes : List ℕ) (r : Refusal) (r
     where
       by : (tick : ℤ) → EndedBetween from to bytes tick r → r .place ≡ stepsToTable (path (named from) (named to))
       by tick (outside-table n s) =
-          stopped-over (tableIn bytes) (coefficientsIn bytes) (path (named from) (named to)) (named from) tick (r .place) (once (named from) (named to)) s
+          stopped-over (tableIn bytes) (coefficientsIn bytes) (path (named from) (named to)) (startOf from tick) (r .place) (once (named from) (named to)) s
       by tick (outside-range done n p s) = let no : ⊥ = omega arith in absurd no
 
-  -- '4: epoch outside the range at start, between steps or at the end', place 'steps done, the one that led outside counted': the start is refused with place
-  -- 0, or so many steps are walked and the next one leads outside
+  -- '4: epoch outside the range at start, between steps or at the end', place 'steps done, the one
+  -- that led outside counted': the start is refused with place 0, or so many steps are walked and
+  -- the next one leads outside
   pub place-of-4 : r .number ≡ 4 → ((r .place ≡ 0) × (readOf reading ≡ R.Refused r))
       ⊎ ((tick : ℤ) × (done : ℕ) × (r .place ≡ suc done) × StoppedBetween from to bytes tick done OutsideRange)
   place-of-4 four = by (because from to reading bytes r refused)
@@ -169,18 +187,17 @@ module _ (from to : ℕ) (reading : Reading) (bytes : List ℕ) (r : Refusal) (r
       by (by-to h k n p) = let no : ⊥ = omega arith in absurd no
       by (by-table o j) = let no : ⊥ = omega (arith, table-above bytes r j) in absurd no
       by (by-reading q) =
-          let start = reading-told (λ of. of .number ≡ 4 → of .place ≡ 0) reading (λ e. omega arith) (λ e. omega arith) (λ e. omega arith) (λ e. omega arith) (λ e. refl) r q in
+          let start =
+          reading-told (λ of. of .number ≡ 4 → of .place ≡ 0) reading (λ e. omega arith) (λ e. omega arith) (λ e. omega arith) (λ e. omega arith)
+          (λ e. refl) r q in
           inl (start four, q)
       by (by-walk tick q w) = inr (ended tick w)
 
--- ---- 'A path that doesn't cross never looks at the table': it answers the same over any two table bytes
+-- ---- 'A path that doesn't cross never looks at the table': it answers the same over any two table
+-- bytes
 pub table-unseen : (from to : ℕ) (reading : Reading) (bytes bytes' : List ℕ) → crosses (named from) (named to) ≡ false
     → convertOf from to reading bytes ≡ convertOf from to reading bytes'
-unfolding convertOf convertJudged askedOf
-table-unseen from to reading bytes bytes' c = by (leb from 6) (leb to 6)
-  where
-    by : (p q : Bool) → convertAsked (coded from to p q true) (readOf reading) (judged bytes) (coefficientsIn bytes)
-        ≡ convertAsked (coded from to p q true) (readOf reading) (judged bytes') (coefficientsIn bytes')
-    by true true = rw c
-    by true false = refl
-    by false q = refl
+unfolding convertOf convertJudged settled
+table-unseen from to reading bytes bytes' c =
+    let walk = between-unseen (named from) (named to) c (readOf reading) in
+    rw (c, walk (tableIn bytes) (tableIn bytes') (coefficientsIn bytes) (coefficientsIn bytes'))

@@ -13,7 +13,7 @@ use Rattle.dates.specs.declared.reading.Read.the-variants.{Tick}
 use Rattle.dates.specs.declared.reading.Reading.the-variants.{TwoPart, Ticks}
 use Rattle.dates.specs.Readings.{readOf}
 use Rattle.desk.specs.Conversion.{convertOf}
-use Rattle.promises.specs.Words.{named}
+use Rattle.scales.specs.Scales.{named}
 
 -- ---- the table of P10 and P11: 'n=1, S=0, H=10^9, G=1, c_0=0, c_1=65536'
 unfoldable pub knownTable : Table
@@ -46,7 +46,8 @@ pub data Row : Type 0 where
   reads : (first second : Float) (tick : ℤ) → Row
 
 abbrev pub Holds : Row → Type 0
-Holds (converts from to tick bytes answer) = convertOf from to (Ticks tick) bytes ≡ Converted (record { scale = named to; tick = answer }) 1
+Holds (converts from to tick bytes answer) =
+    convertOf from to (Ticks tick) bytes ≡ Converted (record { scale = named to; tick = answer }) 1
 Holds (delays coefficient delay) = (place H : ℕ) → delayAt (coefficient ∷ []) place H ≡ delay
 Holds (reads first second tick) = readOf (TwoPart first second) ≡ Tick tick
 

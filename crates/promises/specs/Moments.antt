@@ -1,4 +1,5 @@
--- Two moments as each scale reads them: the first and the last tick of the table of P10 and P11, walked from scale to scale.
+-- Two moments as each scale reads them: the first and the last tick of the table of P10 and P11,
+-- walked from scale to scale.
 use lib.IntN.{ℤ, pos, negℤ}
 use Rattle.scales.specs.declared.scale.Scale.{Scale}
 use Rattle.scales.specs.declared.scale.Scale.the-variants.{Gps, Tai, Tt, Tcg, Tdb, Tcb}

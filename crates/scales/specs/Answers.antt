@@ -1,29 +1,33 @@
--- What each case of an answer says in the page's numbers: 0 for 'accepted', and 0 for whatever a refusal does not carry ('A refusal carries no tick').
+-- What each case of an answer says in the page's numbers: 0 for 'accepted', and 0 for whatever a
+-- refusal does not carry ('A refusal carries no tick').
+use mathlib.Core.Bool.{cond}
 use Prim.Native.Nat.{ℕ}
 use lib.IntN.{ℤ, pos}
 use Rattle.scales.specs.declared.answer.Answer.{Answer}
 use Rattle.scales.specs.declared.answer.Answer.the-variants.{Converted, Refused}
+use Rattle.scales.specs.declared.answer.Stepped.{Stepped}
+use Rattle.scales.specs.declared.answer.Stepped.the-variants as S
 use Rattle.scales.specs.declared.scale.Named.{Named}
 use Rattle.scales.specs.declared.scale.Named.the-variants as N
-use Rattle.scales.specs.declared.tick.Ticked.{Ticked}
-use Rattle.scales.specs.declared.tick.Ticked.the-variants.{At, Outside}
+use Rattle.scales.specs.declared.scale.Scale.{Scale}
+use Rattle.scales.specs.Tick.{isValid}
 
 -- ---- a conversion's answer
-unfoldable pub numberOf : Answer → ℕ
-numberOf (Converted epoch steps) = 0
-numberOf (Refused refusal) = refusal .number
+unfoldable pub answerNumber : Answer → ℕ
+answerNumber (Converted epoch steps) = 0
+answerNumber (Refused refusal) = refusal .number
 
-unfoldable pub placeOf : Answer → ℕ
-placeOf (Converted epoch steps) = 0
-placeOf (Refused refusal) = refusal .place
+unfoldable pub answerPlace : Answer → ℕ
+answerPlace (Converted epoch steps) = 0
+answerPlace (Refused refusal) = refusal .place
 
-unfoldable pub tickOf : Answer → ℤ
-tickOf (Converted epoch steps) = epoch .tick
-tickOf (Refused refusal) = pos 0
+unfoldable pub answerTick : Answer → ℤ
+answerTick (Converted epoch steps) = epoch .tick
+answerTick (Refused refusal) = pos 0
 
-unfoldable pub stepsOf : Answer → ℕ
-stepsOf (Converted epoch steps) = steps
-stepsOf (Refused refusal) = 0
+unfoldable pub answerSteps : Answer → ℕ
+answerSteps (Converted epoch steps) = steps
+answerSteps (Refused refusal) = 0
 
 -- ---- a code's answer
 unfoldable pub namedNumber : Named → ℕ
@@ -34,7 +38,15 @@ unfoldable pub namedPlace : Named → ℕ
 namedPlace (N.Scale scale) = 0
 namedPlace (N.Refused refusal) = refusal .place
 
--- ---- a step's answer: '4: epoch outside the range'. The place, 'steps done', is known to the walk alone
-unfoldable pub tickedNumber : Ticked → ℕ
-tickedNumber (At t) = 0
-tickedNumber Outside = 4
+-- ---- where a step comes to
+-- an epoch of the scale, where its tick is in the range
+unfoldable pub keptIn : Scale → ℤ → Stepped
+keptIn scale tick =
+    cond (isValid tick) (S.Reached (record { scale = scale; tick = tick })) S.OutsideRange
+
+-- '6: outside the table', '4: epoch outside the range', 0 where an epoch is reached. The place,
+-- 'steps done', is known to the walk alone
+unfoldable pub steppedNumber : Stepped → ℕ
+steppedNumber (S.Reached epoch) = 0
+steppedNumber S.OutsideTable = 6
+steppedNumber S.OutsideRange = 4

@@ -1,7 +1,6 @@
 pub mod Tick
 pub mod Scales
 pub mod Answers
-pub mod Path
 pub mod Linear
-pub mod Drift
-pub mod Steps
+pub mod Rows
+pub mod Path

@@ -1,13 +1,10 @@
--- The steps that need no table. 'Each linear step gives the tick nearest to the exact value; an exact half goes to the greater.'
-use mathlib.Core.Bool.{cond}
+-- The lines of the steps that need no table. 'Each linear step gives the tick nearest to the exact
+-- value; an exact half goes to the greater.'
 use Prim.Native.Nat.{ℕ, _*_, _-_, _^_}
 use lib.IntN.{ℤ, pos, negℤ, _+ℤ_, _*ℤ_}
 use Rattle.numbers.specs.Rounding.{nearest}
-use Rattle.scales.specs.declared.tick.Ticked.{Ticked}
-use Rattle.scales.specs.declared.tick.Ticked.the-variants.{Outside}
-use Rattle.scales.specs.Tick.{isValid, kept}
 
--- a linear step by its fraction and offset: the exact value at the tick t is (times·t + plus) / over
+-- a fraction and an offset: the exact value at the tick t is (times·t + plus) / over
 pub record Linear : Type 0 where
   pub times : ℕ
   pub over : ℕ
@@ -27,24 +24,13 @@ tcgToTt = record { times = 10 ^ 19 - 6969290134; over = 10 ^ 19; plus = pos 0 }
 
 -- 'TDB = TCB − L_B·TCB − 65,500 ticks, with L_B = 1550519768 / 10^17.'
 abbrev pub tcbToTdb : Linear
-tcbToTdb = record { times = 10 ^ 17 - 1550519768; over = 10 ^ 17; plus = negℤ (pos (65500 * 10 ^ 17)) }
+tcbToTdb =
+    record { times = 10 ^ 17 - 1550519768; over = 10 ^ 17; plus = negℤ (pos (65500 * 10 ^ 17)) }
 
--- 'the exact inverse fractions': y = (times·x + plus) / over is x = (over·y − plus) / times
+-- 'TCG from TT and TCB from TDB are the exact inverse fractions', and so of the others:
+-- y = (times·x + plus) / over is x = (over·y − plus) / times
 abbrev pub inverse : Linear → Linear
 inverse s = record { times = s .over; over = s .times; plus = negℤ (s .plus) }
-
-abbrev pub taiToGps : Linear
-taiToGps = inverse gpsToTai
-
-abbrev pub ttToTai : Linear
-ttToTai = inverse taiToTt
-
--- 'TCG from TT and TCB from TDB are the exact inverse fractions.'
-abbrev pub ttToTcg : Linear
-ttToTcg = inverse tcgToTt
-
-abbrev pub tdbToTcb : Linear
-tdbToTcb = inverse tcbToTdb
 
 -- the exact value at t, times `over`
 unfoldable pub exact : Linear → ℤ → ℤ
@@ -53,7 +39,3 @@ exact s t = pos (s .times) *ℤ t +ℤ s .plus
 -- 'the tick nearest to the exact value'
 unfoldable pub nearestTick : Linear → ℤ → ℤ
 nearestTick s t = nearest (exact s t) (s .over)
-
--- the step itself: from a valid tick to a valid tick, or it says that one of the two lies outside the range
-unfoldable pub step : Linear → ℤ → Ticked
-step s t = cond (isValid t) (kept (nearestTick s t)) Outside

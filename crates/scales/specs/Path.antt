@@ -1,27 +1,31 @@
--- 'The scales form one line with a branch: GPS, TAI, TT, then TT to TCG, and TT to TDB to TCB. A conversion walks the only path.'
+-- 'A conversion walks the only path': from scale to scale, one step after the other.
 use mathlib.Core.Bool.{Bool, true, false, _||_}
 use mathlib.Core.List.{List, [], _∷_}
 use Prim.Native.Nat.{ℕ, zero, suc}
+use lib.Dec.{eqb}
 use lib.ListN.{length}
+use Rattle.scales.specs.declared.path.Line.{Line}
+use Rattle.scales.specs.declared.path.Line.the-variants.{GpsTai, TaiTt, TcgTt, TcbTdb}
+use Rattle.scales.specs.declared.path.Edge.the-variants as Edge
 use Rattle.scales.specs.declared.path.Step.{Step}
-use Rattle.scales.specs.declared.path.Step.the-variants.{GpsToTai, TaiToGps, TaiToTt, TtToTai, TcgToTt, TtToTcg, TtToTdb, TdbToTt, TcbToTdb, TdbToTcb}
+use Rattle.scales.specs.declared.path.Step.the-variants.{Along, Back}
 use Rattle.scales.specs.declared.path.Way.{Way}
 use Rattle.scales.specs.declared.path.Way.the-variants.{Here, By}
 use Rattle.scales.specs.declared.scale.Scale.{Scale}
 use Rattle.scales.specs.declared.scale.Scale.the-variants.{Gps, Tai, Tt, Tcg, Tdb, Tcb}
+use Rattle.scales.specs.Rows.{end, overTable}
 
--- the scale in which a step ends
-abbrev pub end : Step → Scale
-end GpsToTai = Tai
-end TaiToGps = Gps
-end TaiToTt = Tt
-end TtToTai = Tai
-end TcgToTt = Tt
-end TtToTcg = Tcg
-end TtToTdb = Tdb
-end TdbToTt = Tt
-end TcbToTdb = Tdb
-end TdbToTcb = Tcb
+-- a number for each scale, by which two are told apart
+abbrev pub ordinal : Scale → ℕ
+ordinal Gps = 0
+ordinal Tai = 1
+ordinal Tt = 2
+ordinal Tcg = 3
+ordinal Tdb = 4
+ordinal Tcb = 5
+
+abbrev pub isOneScale : Scale → Scale → Bool
+isOneScale from to = eqb (ordinal from) (ordinal to)
 
 -- one of six, by the scale to which the path leads
 abbrev pub leadingTo : Scale → Way → Way → Way → Way → Way → Way → Way
@@ -32,28 +36,44 @@ leadingTo Tcg gps tai tt tcg tdb tcb = tcg
 leadingTo Tdb gps tai tt tcg tdb tcb = tdb
 leadingTo Tcb gps tai tt tcg tdb tcb = tcb
 
--- the next step from the first scale on the way to the second. The columns: to GPS, to TAI, to TT, to TCG, to TDB, to TCB
+abbrev along : Line → Way
+along line = By (Along (Edge.Linear line))
+
+abbrev back : Line → Way
+back line = By (Back (Edge.Linear line))
+
+abbrev over : Way
+over = By (Along Edge.Table)
+
+abbrev backOver : Way
+backOver = By (Back Edge.Table)
+
+-- the next step from the first scale on the way to the second.
+-- The columns: to GPS, to TAI, to TT, to TCG, to TDB, to TCB
 abbrev pub next : Scale → Scale → Way
-next Gps to = leadingTo to Here (By GpsToTai) (By GpsToTai) (By GpsToTai) (By GpsToTai) (By GpsToTai)
-next Tai to = leadingTo to (By TaiToGps) Here (By TaiToTt) (By TaiToTt) (By TaiToTt) (By TaiToTt)
-next Tt to = leadingTo to (By TtToTai) (By TtToTai) Here (By TtToTcg) (By TtToTdb) (By TtToTdb)
-next Tcg to = leadingTo to (By TcgToTt) (By TcgToTt) (By TcgToTt) Here (By TcgToTt) (By TcgToTt)
-next Tdb to = leadingTo to (By TdbToTt) (By TdbToTt) (By TdbToTt) (By TdbToTt) Here (By TdbToTcb)
-next Tcb to = leadingTo to (By TcbToTdb) (By TcbToTdb) (By TcbToTdb) (By TcbToTdb) (By TcbToTdb) Here
+next Gps to = let tai = along GpsTai in leadingTo to Here tai tai tai tai tai
+next Tai to = let tt = along TaiTt in leadingTo to (back GpsTai) Here tt tt tt tt
+next Tt to = leadingTo to (back TaiTt) (back TaiTt) Here (back TcgTt) over over
+next Tcg to = let tt = along TcgTt in leadingTo to tt tt tt Here tt tt
+next Tdb to = leadingTo to backOver backOver backOver backOver Here (back TcbTdb)
+next Tcb to = let tdb = along TcbTdb in leadingTo to tdb tdb tdb tdb tdb Here
 
 -- the next step, if there is one, and the rest of the path from its end
-abbrev pub walked : (Scale → List Step) → Way → List Step
-walked rest Here = []
-walked rest (By step) = step ∷ rest (end step)
+abbrev pub stepAndRest : (Scale → List Step) → Way → List Step
+stepAndRest rest Here = []
+stepAndRest rest (By step) = step ∷ rest (end step)
 
 -- a path of at most so many steps
 abbrev pub pathWithin : ℕ → Scale → Scale → List Step
 pathWithin zero from to = []
-pathWithin (suc most) from to = walked (λ scale. pathWithin most scale to) (next from to)
+pathWithin (suc most) from to = stepAndRest (λ scale. pathWithin most scale to) (next from to)
 
 -- 'the number of steps walked (0 to 4)'
+abbrev pub longestPath : ℕ
+longestPath = 4
+
 abbrev pub path : Scale → Scale → List Step
-path from to = pathWithin 4 from to
+path from to = pathWithin longestPath from to
 
 abbrev pub steps : Scale → Scale → ℕ
 steps from to = length (path from to)
@@ -66,19 +86,6 @@ barycentric Tt = false
 barycentric Tcg = false
 barycentric Tdb = true
 barycentric Tcb = true
-
--- a step over the table
-abbrev pub overTable : Step → Bool
-overTable GpsToTai = false
-overTable TaiToGps = false
-overTable TaiToTt = false
-overTable TtToTai = false
-overTable TcgToTt = false
-overTable TtToTcg = false
-overTable TtToTdb = true
-overTable TdbToTt = true
-overTable TcbToTdb = false
-overTable TdbToTcb = false
 
 abbrev pub anyOverTable : List Step → Bool
 anyOverTable [] = false

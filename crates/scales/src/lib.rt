@@ -1,9 +1,8 @@
-// The six time scales of the desk: the tick, the codes, the path from scale to scale, and the steps that need no table.
-// Nothing here knows of a table: the step between TT and TDB is another crate's.
+// The six time scales of the desk: the tick, the codes, the path from scale to scale, and what an
+// answer is. Nothing here takes a step: those that need no table are `linear`'s, the others
+// `ephemeris`'.
 pub mod answer;
-mod drift;
-mod linear;
 pub mod path;
+pub mod refusal;
 pub mod scale;
-pub mod steps;
 pub mod tick;

@@ -1,26 +1,105 @@
-// The path from scale to scale: 'The scales form one line with a branch: GPS, TAI, TT, then TT to TCG, and TT to TDB to TCB.'
+// The path from scale to scale: 'The scales form one line with a branch: GPS, TAI, TT, then TT to
+// TCG, and TT to TDB to TCB.' Five edges, each of them a step along it and a step back.
 use crate::scale::Scale;
 ghost use mathlib.Core.Path.{_≡_};
-ghost use Rattle.scales.specs.Path.{leadingTo, next, end, steps, barycentric, crosses};
+ghost use Rattle.scales.specs.Rows.{edgeEnds, end};
+ghost use Rattle.scales.specs.Path.{ordinal, isOneScale, leadingTo, next, steps, barycentric};
+ghost use Rattle.scales.specs.Path.{crosses};
+
+// The edges that are linear, each from and to as the page writes its equation: 'TAI = GPS + 19 s',
+// 'TT = TAI + 32.184 s', 'TT = TCG − L_G·TCG', 'TDB = TCB − L_B·TCB − 65,500 ticks'.
+pub enum Line {
+    GpsTai,
+    TaiTt,
+    TcgTt,
+    TcbTdb,
+}
+
+// An edge: a line, or from TT to TDB over the table.
+pub enum Edge {
+    Linear(Line),
+    Table,
+}
 
 // A step, from a scale to its neighbour.
 pub enum Step {
-    GpsToTai,
-    TaiToGps,
-    TaiToTt,
-    TtToTai,
-    TcgToTt,
-    TtToTcg,
-    TtToTdb,
-    TdbToTt,
-    TcbToTdb,
-    TdbToTcb,
+    Along(Edge),
+    Back(Edge),
 }
 
 // The next step of a path, or that it is at its end.
 pub enum Way {
     Here,
     By(Step),
+}
+
+// The scales at the two ends of an edge.
+struct Ends {
+    from: Scale,
+    to: Scale,
+}
+
+// A number for each scale, by which two are told apart.
+fn ordinal_of(scale: Scale) -> u32
+    ensures { λ r. ⌜ r ≡ ordinal scale ⌝ }
+{
+    match scale {
+        Scale::Gps => 0,
+        Scale::Tai => 1,
+        Scale::Tt => 2,
+        Scale::Tcg => 3,
+        Scale::Tdb => 4,
+        Scale::Tcb => 5,
+    }
+}
+
+// Whether the path has no step.
+pub fn is_one_scale(from: Scale, to: Scale) -> bool
+    ensures { λ r. ⌜ r ≡ isOneScale from to ⌝ }
+{
+    ordinal_of(from) == ordinal_of(to)
+}
+
+// 'the number of steps walked (0 to 4)'
+pub const LONGEST_PATH: u32 = 4;
+
+fn ends_of(edge: Edge) -> Ends
+    ensures { λ r. ⌜ r ≡ edgeEnds edge ⌝ }
+{
+    let Edge::Linear(line) = edge else {
+        return Ends {
+            from: Scale::Tt,
+            to: Scale::Tdb,
+        };
+    };
+    match line {
+        Line::GpsTai => Ends {
+            from: Scale::Gps,
+            to: Scale::Tai,
+        },
+        Line::TaiTt => Ends {
+            from: Scale::Tai,
+            to: Scale::Tt,
+        },
+        Line::TcgTt => Ends {
+            from: Scale::Tcg,
+            to: Scale::Tt,
+        },
+        Line::TcbTdb => Ends {
+            from: Scale::Tcb,
+            to: Scale::Tdb,
+        },
+    }
+}
+
+// The scale in which a step ends.
+pub fn end_of(step: Step) -> Scale
+    ensures { λ r. ⌜ r ≡ end step ⌝ }
+{
+    match step {
+        Step::Along(edge) => ends_of(edge).to,
+        Step::Back(edge) => ends_of(edge).from,
+    }
 }
 
 // One of six, by the scale to which the path leads.
@@ -44,48 +123,33 @@ pub fn next_step(from: Scale, to: Scale) -> Way
     let here = Way::Here;
     match from {
         Scale::Gps => {
-            let tai = Way::By(Step::GpsToTai);
+            let tai = Way::By(Step::Along(Edge::Linear(Line::GpsTai)));
             leading_to(to, here, tai, tai, tai, tai, tai)
         }
         Scale::Tai => {
-            let tt = Way::By(Step::TaiToTt);
-            leading_to(to, Way::By(Step::TaiToGps), here, tt, tt, tt, tt)
+            let tt = Way::By(Step::Along(Edge::Linear(Line::TaiTt)));
+            let gps = Way::By(Step::Back(Edge::Linear(Line::GpsTai)));
+            leading_to(to, gps, here, tt, tt, tt, tt)
         }
         Scale::Tt => {
-            let tai = Way::By(Step::TtToTai);
-            let tdb = Way::By(Step::TtToTdb);
-            leading_to(to, tai, tai, here, Way::By(Step::TtToTcg), tdb, tdb)
+            let tai = Way::By(Step::Back(Edge::Linear(Line::TaiTt)));
+            let tdb = Way::By(Step::Along(Edge::Table));
+            let tcg = Way::By(Step::Back(Edge::Linear(Line::TcgTt)));
+            leading_to(to, tai, tai, here, tcg, tdb, tdb)
         }
         Scale::Tcg => {
-            let tt = Way::By(Step::TcgToTt);
+            let tt = Way::By(Step::Along(Edge::Linear(Line::TcgTt)));
             leading_to(to, tt, tt, tt, here, tt, tt)
         }
         Scale::Tdb => {
-            let tt = Way::By(Step::TdbToTt);
-            leading_to(to, tt, tt, tt, tt, here, Way::By(Step::TdbToTcb))
+            let tt = Way::By(Step::Back(Edge::Table));
+            let tcb = Way::By(Step::Back(Edge::Linear(Line::TcbTdb)));
+            leading_to(to, tt, tt, tt, tt, here, tcb)
         }
         Scale::Tcb => {
-            let tdb = Way::By(Step::TcbToTdb);
+            let tdb = Way::By(Step::Along(Edge::Linear(Line::TcbTdb)));
             leading_to(to, tdb, tdb, tdb, tdb, tdb, here)
         }
-    }
-}
-
-// The scale in which a step ends.
-pub fn end_of(step: Step) -> Scale
-    ensures { λ r. ⌜ r ≡ end step ⌝ }
-{
-    match step {
-        Step::GpsToTai => Scale::Tai,
-        Step::TaiToGps => Scale::Gps,
-        Step::TaiToTt => Scale::Tt,
-        Step::TtToTai => Scale::Tai,
-        Step::TcgToTt => Scale::Tt,
-        Step::TtToTcg => Scale::Tcg,
-        Step::TtToTdb => Scale::Tdb,
-        Step::TdbToTt => Scale::Tt,
-        Step::TcbToTdb => Scale::Tdb,
-        Step::TdbToTcb => Scale::Tcb,
     }
 }
 
@@ -95,7 +159,7 @@ pub fn steps_between(from: Scale, to: Scale) -> u32
 {
     let mut at = from;
     let mut walked: u32 = 0;
-    while walked < 4 {
+    while walked < LONGEST_PATH {
         match next_step(at, to) {
             Way::Here => {
                 return walked;

@@ -1,7 +1,7 @@
 // The scales and their codes.
-use crate::answer::Refusal;
+use crate::refusal::Refusal;
 ghost use mathlib.Core.Path.{_≡_};
-ghost use Rattle.scales.specs.Scales.{scaleOf};
+ghost use Rattle.scales.specs.Scales.{isCode, named, scaleOf};
 
 pub enum Scale {
     Gps,
@@ -12,24 +12,53 @@ pub enum Scale {
     Tcb,
 }
 
+// What a code is read for: one reading, a batch of ticks, or a line of text.
+pub enum Purpose {
+    Reading,
+    Batch,
+    Line,
+}
+
 // What a code names.
 pub enum Named {
     Scale(Scale),
     Refused(Refusal),
 }
 
-// 'Codes: 1 GPS, 2 TAI, 3 TT, 4 TCG, 5 TDB, 6 TCB; 0 is read as TT.' A code above 6 is refusal 1 at the given place: 0 from, 1 to.
-pub fn scale_of(code: u32, place: u64) -> Named
-    ensures { λ r. ⌜ r ≡ scaleOf code place ⌝ }
+// Whether a number is a code, by what it is read for: 'scale code above 6' is none.
+fn is_code(purpose: Purpose, code: u32) -> bool
+    ensures { λ r. ⌜ r ≡ isCode purpose code ⌝ }
+{
+    match purpose {
+        Purpose::Reading => code <= 6,
+        Purpose::Batch => code <= 6,
+        Purpose::Line => code <= 6,
+    }
+}
+
+// 'Codes: 1 GPS, 2 TAI, 3 TT, 4 TCG, 5 TDB, 6 TCB; 0 is read as TT.' A number that is no code
+// names none; TT stands in for it.
+fn scale_named(code: u32) -> Scale
+    ensures { λ r. ⌜ r ≡ named code ⌝ }
 {
     match code {
-        0 => Named::Scale(Scale::Tt),
-        1 => Named::Scale(Scale::Gps),
-        2 => Named::Scale(Scale::Tai),
-        3 => Named::Scale(Scale::Tt),
-        4 => Named::Scale(Scale::Tcg),
-        5 => Named::Scale(Scale::Tdb),
-        6 => Named::Scale(Scale::Tcb),
-        _ => Named::Refused(Refusal { number: 1, place }),
+        0 => Scale::Tt,
+        1 => Scale::Gps,
+        2 => Scale::Tai,
+        3 => Scale::Tt,
+        4 => Scale::Tcg,
+        5 => Scale::Tdb,
+        6 => Scale::Tcb,
+        _ => Scale::Tt,
     }
+}
+
+// The scale of a code, or refusal 1 at the given place: 0 from, 1 to.
+pub fn scale_of(purpose: Purpose, code: u32, place: u64) -> Named
+    ensures { λ r. ⌜ r ≡ scaleOf purpose code place ⌝ }
+{
+    if is_code(purpose, code) {
+        return Named::Scale(scale_named(code));
+    }
+    Named::Refused(Refusal { number: 1, place })
 }

@@ -25,7 +25,8 @@ answer colliedash_convert_ticks(u32 from, u32 to, i64 tick, const u8 *table, u64
     return got;
 }
 
-answer colliedash_convert_date(u32 from, u32 to, double first, double second, const u8 *table, u64 length)
+answer colliedash_convert_date(u32 from, u32 to, double first, double second, const u8 *table,
+                               u64 length)
 {
     answer got = { from, to, bits(first), bits(second), length ? table[0] : -1 };
     return got;

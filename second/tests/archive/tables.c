@@ -38,7 +38,8 @@ table colliedash_read_table(const u8 *bytes, u64 length, i64 *into, u64 room)
 answer colliedash_write_table(i64 start, i64 length, u32 count, u32 degree, const i64 *list,
                               u64 many, u8 *image, u64 size)
 {
-    answer got = { count, degree, many ? (u64)list[many - 1] : 0, 1000 * many + size, start - length };
+    u64 last = many ? (u64)list[many - 1] : 0;
+    answer got = { count, degree, last, 1000 * many + size, start - length };
     for (u64 i = 0; i < size; i++) image[i] ^= (u8)i;
     if (many && list[0] == 'c') ((i64 *)list)[many - 1]++;
     if (many && list[0] == '>') ((i64 *)list)[many] = 0;

@@ -1,4 +1,5 @@
--- `granule::argument` meets its contract: the digits of `Digits`, whose sizes keep every number within 64 bits. Assumes nothing.
+-- `granule::argument` meets its contract: the digits of `Digits`, whose sizes keep every number
+-- within 64 bits. Assumes nothing.
 use borrow.Author.Needs.{needs}
 use mathlib.Core.Path.{sym, _∙_}
 use Prim.Native.Nat.{_^_, _≤_, _<_}
@@ -10,23 +11,23 @@ use mir.Val.{SFits}
 use Rattle.numbers.proofs.Order.{size-+}
 use Rattle.numbers.proofs.Machine.{fits, read-is}
 use Rattle.granule.specs.Rule.{scale}
-use Rattle.granule.proofs.Digits.{stepsOf, Sized, sized, u-is}
+use Rattle.granule.proofs.Digits.{digitSum, DigitsSized, digits-sized, u-is}
 use Rattle.granule.proofs.argument.Statement.{statement}
 use Rattle.granule.proofs.argument.Tie as tie
 
 some : (c : tie.Start) → 0 < c .args .length
 some c = let l = c .pre .long in omega arith
 
-all : (c : tie.Start) → Sized (c .args .place) (c .args .length)
-all c = sized (c .args .place) (c .args .length) (some c) (c .pre .inside)
+all : (c : tie.Start) → DigitsSized (c .args .place) (c .args .length)
+all c = digits-sized (c .args .place) (c .args .length) (some c) (c .pre .inside)
 
-steps : (c : tie.Start) → SFits w64 (pos (stepsOf (c .args .place) (c .args .length)))
-steps c = let s = all c in fits (pos (stepsOf (c .args .place) (c .args .length))) (omega arith)
+steps : (c : tie.Start) → SFits w64 (pos (digitSum (c .args .place) (c .args .length)))
+steps c = let s = all c in fits (pos (digitSum (c .args .place) (c .args .length))) (omega arith)
 
-less : (c : tie.Start) → SFits w64 (pos (stepsOf (c .args .place) (c .args .length)) -ℤ pos scale)
+less : (c : tie.Start) → SFits w64 (pos (digitSum (c .args .place) (c .args .length)) -ℤ pos scale)
 less c =
     let s = all c in
-    let q = stepsOf (c .args .place) (c .args .length) in
+    let q = digitSum (c .args .place) (c .args .length) in
     let h : q ≤ 2 ^ 32 = omega arith in
     fits (pos q -ℤ pos scale) (omega (arith, size-+ (pos q) (negℤ (pos scale)) h (le-refl scale)))
 

@@ -1,4 +1,5 @@
--- `granule::delay` meets its contract: v / 65536 rounded is half of v / 32768, rounded down, and one. Assumes nothing.
+-- `granule::delay` meets its contract: v / 65536 rounded is half of v / 32768, rounded down, and
+-- one. Assumes nothing.
 use mathlib.Core.Path.{_≡_, sym, _∙_}
 use Prim.Native.Nat.{_+_, _^_, _≤_}
 use native.Mathlib.Nat.{le-refl}

@@ -1,4 +1,5 @@
--- `granule::light` meets its contract: the second bound is looked at where the first holds. Assumes nothing.
+-- `granule::light` meets its contract: the second bound is looked at where the first holds. Assumes
+-- nothing.
 use borrow.Author.Tests.{le-leb, lt-leb}
 use Rattle.granule.specs.Tests.{isLight}
 use Rattle.granule.proofs.light.Statement.{statement}

@@ -1,4 +1,5 @@
--- `granule::plain` meets its contract. The loop's invariant: the sum is that of the coefficients from c_k on. The measure is k. Assumes nothing.
+-- `granule::plain` meets its contract. The loop's invariant: the sum is that of the coefficients
+-- from c_k on. The measure is k. Assumes nothing.
 use borrow.Author.Needs.{needs}
 use mathlib.Core.Path.{_≡_}
 use Prim.Native.Nat.{_-_, _≤_}
@@ -7,7 +8,7 @@ use native.Mathlib.Omega.{arith}
 use lib.IntN.{ℤ, pos, _+ℤ_}
 use lib.ListN.{length, getD, drop}
 use mir.Syntax.{w64}
-use mir.Val.{SFits, toZ}
+use mir.Val.{SFits}
 use Rattle.numbers.proofs.Machine.{read}
 use Rattle.granule.specs.Tests.{plainSum}
 use Rattle.granule.proofs.Sums.{plain-joins, sum-begins, sum-turns}
@@ -15,20 +16,21 @@ use Rattle.granule.proofs.plain.Statement.{statement}
 use Rattle.granule.proofs.plain.Tie as tie
 
 abbrev Inv-loop : tie.InvT-loop
-Inv-loop cs sum₀ k₀ sum k = (k ≤ length cs) × (toZ w64 sum ≡ plainSum (drop k cs))
+Inv-loop cs sum₀ k₀ sum k = (k ≤ length cs) × (sum .0 ≡ plainSum (drop k cs))
 
 abbrev μ-loop : tie.MeasureT-loop
 μ-loop cs sum₀ k₀ sum k = k
 
 -- the next sum, as the code makes it
-abbrev next : (c : tie.After-c Inv-loop μ-loop) → ℤ
-next c = read (getD (c .before .before .before .args .coefficients .now) (c .before .before .loop .k - 1) (pos 0)) +ℤ toZ w64 (c .before .before .loop .sum)
-
-turned : (c : tie.After-c Inv-loop μ-loop)
-    → SFits w64 (next c) × (read (next c) ≡ plainSum (drop (c .before .before .loop .k - 1) (c .before .before .before .args .coefficients .now)))
+turned : (c : tie.After-t8 Inv-loop μ-loop)
+    → let o = c .before .before in
+    let cs = o .before .args .coefficients .now in
+    let next = read (read (getD cs (o .loop .k - 1) (pos 0))) +ℤ read (o .loop .sum .0) in
+    SFits w64 next × (read next ≡ plainSum (drop (o .loop .k - 1) cs))
 turned c =
     let o = c .before .before in
-    sum-turns plainSum _+ℤ_ plain-joins (o .before .args .coefficients .now) (o .loop .k) (toZ w64 (o .loop .sum)) (o .before .pre) (c .before .loop-test .taken) (o .loop .inv .0) (record { sfits = c .c .given }) (o .loop .inv .1)
+    sum-turns plainSum _+ℤ_ plain-joins (o .before .args .coefficients .now) (o .loop .k) (o .loop .sum .0) (o .before .pre)
+    (c .before .loop-test .taken) (o .loop .inv .0) (record { sfits = c .t8 .given }) (o .loop .inv .1)
 
 loop-holds : tie.Need-loop-holds Inv-loop μ-loop
 loop-holds c = (le-refl _, sum-begins plainSum _+ℤ_ plain-joins (c .args .coefficients .now))
@@ -36,20 +38,20 @@ loop-holds c = (le-refl _, sum-begins plainSum _+ℤ_ plain-joins (c .args .coef
 sub-k : tie.Need-sub-k Inv-loop μ-loop
 sub-k c = search needs
 
-mul-c : tie.Need-mul-c Inv-loop μ-loop
-mul-c c = omega arith
+mul-t6 : tie.Need-mul-t6 Inv-loop μ-loop
+mul-t6 c = omega arith
 
-shared-slice-copy-out-c : tie.Need-shared-slice-copy-out-c Inv-loop μ-loop
-shared-slice-copy-out-c c = search needs
+shared-slice-copy-out-t8 : tie.Need-shared-slice-copy-out-t8 Inv-loop μ-loop
+shared-slice-copy-out-t8 c = search needs
 
-add-sum : tie.Need-add-sum Inv-loop μ-loop
-add-sum c = turned c .0
+add-t8 : tie.Need-add-t8 Inv-loop μ-loop
+add-t8 c = turned (c .before .before .before .before) .0
 
 loop-less : tie.Need-loop-less Inv-loop μ-loop
 loop-less c = search needs
 
 loop-again : tie.Need-loop-again Inv-loop μ-loop
-loop-again c = (omega arith, turned c .1)
+loop-again c = (omega arith, turned (c .before .before .before .before) .1)
 
 returns : tie.Need-returns Inv-loop μ-loop
 returns c = let o = c .before in let done : o .loop .k ≡ 0 = omega arith in rw done at (o .loop .inv .1)
@@ -62,9 +64,9 @@ plain-spec =
     μ-loop
     loop-holds
     sub-k
-    mul-c
-    shared-slice-copy-out-c
-    add-sum
+    mul-t6
+    shared-slice-copy-out-t8
+    add-t8
     loop-less
     loop-again
     returns)

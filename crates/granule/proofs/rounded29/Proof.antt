@@ -1,34 +1,34 @@
--- `granule::rounded29` meets its contract: it is the rounded product of `Product`, with b split at 2^29. Assumes nothing.
+-- `granule::rounded29` meets its contract: it is the rounded product of `Product`, with b split at
+-- 2^29. Assumes nothing.
 use Prim.Native.Nat.{_^_}
 use lib.Dec.{lit≤}
-use Rattle.granule.proofs.Product.{Safe, safe}
+use Rattle.granule.proofs.Product.{SafeProduct, safe-product}
 use Rattle.granule.proofs.rounded29.Statement.{statement}
 use Rattle.granule.proofs.rounded29.Tie as tie
 
-all : (c : tie.Start) → Safe (c .args .u) (c .args .b) (2 ^ 28)
-all c = safe (c .args .u) (c .args .b) (2 ^ 28) (lit≤ tt) (lit≤ tt) (c .pre)
+all : (c : tie.Start) → SafeProduct (c .args .u) (c .args .b .0) (2 ^ 28)
+all c = safe-product (c .args .u) (c .args .b .0) (2 ^ 28) (lit≤ tt) (lit≤ tt) (c .pre)
 
 mul-low : tie.Need-mul-low
-mul-low c = all c .taken
+mul-low c = all (c .before .before) .taken
 
 sub-low : tie.Need-sub-low
-sub-low c = all c .low
+sub-low c = all (c .before .before .before .before) .low
 
-mul-result : tie.Need-mul-result
-mul-result c = all c .coarse
+mul-t5 : tie.Need-mul-t5
+mul-t5 c = all (c .before .before .before .before) .coarse
 
-mul-result-2 : tie.Need-mul-result-2
-mul-result-2 c = all c .product
+mul-t6 : tie.Need-mul-t6
+mul-t6 c = all (c .before .before .before .before) .product
 
-add-result : tie.Need-add-result
-add-result c = all c .raised
+add-t7 : tie.Need-add-t7
+add-t7 c = all (c .before .before .before .before) .raised
 
-add-result-2 : tie.Need-add-result-2
-add-result-2 c = all c .result
+add-t9 : tie.Need-add-t9
+add-t9 c = all (c .before .before .before .before) .result
 
 returns : tie.Need-returns
-returns c = all c .is
+returns c = all (c .before .before .before .before) .is
 
 pub rounded29-spec : {M : Type 1} → statement M
-rounded29-spec =
-    tie.close (tie.spec mul-low sub-low mul-result mul-result-2 add-result add-result-2 returns)
+rounded29-spec = tie.close (tie.spec mul-low sub-low mul-t5 mul-t6 add-t7 add-t9 returns)

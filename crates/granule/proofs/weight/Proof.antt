@@ -1,5 +1,5 @@
--- `granule::weight` meets its contract. The loop's invariant: the sum is the weight of the coefficients from c_k on, which stays below 2^52. The measure
--- is k. Assumes nothing.
+-- `granule::weight` meets its contract. The loop's invariant: the sum is the weight of the
+-- coefficients from c_k on, which stays below 2^52. The measure is k. Assumes nothing.
 use borrow.Author.Needs.{needs}
 use mathlib.Core.Path.{_≡_, refl, sym, _∙_, ap}
 use mathlib.Core.List.{List}
@@ -11,7 +11,7 @@ use lib.ListN.{length, getD, drop}
 use Rattle.numbers.proofs.Machine.{read-is}
 use Rattle.granule.specs.Tests.{largest, weightFrom, weightOf}
 use Rattle.granule.proofs.Clauses.{weight-nil, weight-cons}
-use Rattle.granule.proofs.Downward.{drop-past, drop-back, earlier}
+use Rattle.granule.proofs.Downward.{drop-past, drop-back, suc-before}
 use Rattle.granule.proofs.Passing.{small-at}
 use Rattle.granule.proofs.Sums.{term-small, weight-bounded}
 use Rattle.granule.proofs.weight.Statement.{statement}
@@ -26,10 +26,11 @@ abbrev μ-loop : tie.MeasureT-loop
 begin : (cs : List ℤ) → 0 ≡ weightFrom (length cs) (drop (length cs) cs)
 begin cs = sym (weight-nil (length cs)) ∙ ap (weightFrom (length cs)) (sym (drop-past cs (length cs) (le-refl (length cs))))
 
-turn : (cs : List ℤ) (k x sum : ℕ) → 0 < k → k ≤ length cs → x ≡ natAbs (getD cs (k - 1) (pos 0)) → sum ≡ weightFrom k (drop k cs)
+turn : (cs : List ℤ) (k x sum : ℕ) → 0 < k → k ≤ length cs → x ≡ natAbs (getD cs (k - 1) (pos 0))
+    → sum ≡ weightFrom k (drop k cs)
     → (k - 1) * (k - 1) * x + sum ≡ weightFrom (k - 1) (drop (k - 1) cs)
 turn cs k x sum h l e f =
-    rw (e, f) (sym (ap (weightFrom (k - 1)) (drop-back cs k h l) ∙ (rw (earlier k h) at (weight-cons (k - 1) (getD cs (k - 1) (pos 0)) (drop k cs)))))
+    rw (e, f) (sym (ap (weightFrom (k - 1)) (drop-back cs k h l) ∙ (rw (suc-before k h) at (weight-cons (k - 1) (getD cs (k - 1) (pos 0)) (drop k cs)))))
 
 end : (cs : List ℤ) → weightFrom 0 (drop 0 cs) ≡ weightOf cs
 unfolding weightOf
@@ -42,9 +43,10 @@ abbrev at : tie.After-size Inv-loop μ-loop → ℕ
 at c = c .before .before .before .loop .k - 1
 
 sized : (c : tie.After-size Inv-loop μ-loop) → c .size .result ≡ natAbs (getD (all c) (at c) (pos 0))
-sized c = rw (read-is _ (record { sfits = c .before .c .given })) at (c .size .ensures)
+sized c = rw (read-is _ (record { sfits = c .before .t10 .given })) at (c .size .ensures)
 
-turned : (c : tie.After-size Inv-loop μ-loop) → at c * at c * c .size .result + c .before .before .before .loop .sum ≡ weightFrom (at c) (drop (at c) (all c))
+turned : (c : tie.After-size Inv-loop μ-loop)
+    → at c * at c * c .size .result + c .before .before .before .loop .sum ≡ weightFrom (at c) (drop (at c) (all c))
 turned c =
     let o = c .before .before .before in
     turn (all c) (o .loop .k) (c .size .result) (o .loop .sum) (c .before .before .loop-test .taken) (o .loop .inv .0) (sized c) (o .loop .inv .1)
@@ -62,11 +64,11 @@ loop-holds c = (le-refl _, begin (c .args .coefficients .now))
 sub-k : tie.Need-sub-k Inv-loop μ-loop
 sub-k c = search needs
 
-mul-c : tie.Need-mul-c Inv-loop μ-loop
-mul-c c = omega arith
+mul-t8 : tie.Need-mul-t8 Inv-loop μ-loop
+mul-t8 c = omega arith
 
-shared-slice-copy-out-c : tie.Need-shared-slice-copy-out-c Inv-loop μ-loop
-shared-slice-copy-out-c c = search needs
+shared-slice-copy-out-t10 : tie.Need-shared-slice-copy-out-t10 Inv-loop μ-loop
+shared-slice-copy-out-t10 c = search needs
 
 size-requires : tie.Need-size-requires Inv-loop μ-loop
 size-requires c κs = search needs
@@ -99,8 +101,8 @@ weight-spec =
     μ-loop
     loop-holds
     sub-k
-    mul-c
-    shared-slice-copy-out-c
+    mul-t8
+    shared-slice-copy-out-t10
     size-requires
     mul-sum
     mul-sum-2

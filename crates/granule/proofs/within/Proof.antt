@@ -1,10 +1,9 @@
 -- `granule::within` meets its contract. Assumes nothing.
-use Prim.Native.Nat.{ℕ}
-use Rattle.granule.specs.Tests.{largest}
-use Rattle.numbers.proofs.Machine.{read-is}
 use borrow.Author.Needs.{needs}
-use lib.Dec.{leb}
 use mathlib.Core.Path.{ap}
+use Prim.Native.Nat.{ℕ}
+use lib.Dec.{leb}
+use Rattle.granule.specs.Tests.{largest}
 use Rattle.granule.proofs.within.Statement.{statement}
 use Rattle.granule.proofs.within.Tie as tie
 
@@ -12,7 +11,7 @@ size-requires : tie.Need-size-requires
 size-requires c κs = search needs
 
 returns : tie.Need-returns
-returns c = ap (λ (x : ℕ). leb x largest) (rw (read-is _ (c .before .fits .c)) at (c .size .ensures))
+returns c = ap (λ (x : ℕ). leb x largest) (c .size .ensures)
 
 pub within-spec : {M : Type 1} → statement M
 within-spec = tie.close (tie.spec size-requires returns)

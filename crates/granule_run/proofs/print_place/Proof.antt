@@ -1,4 +1,5 @@
--- `granule_run::print_place` meets its contract: the granule is one that `value` takes, and the place is in it. Assumes nothing.
+-- `granule_run::print_place` meets its contract: the granule is one that `value` takes, and the
+-- place is in it. Assumes nothing.
 use borrow.Author.Needs.{needs}
 use mathlib.Core.Path.{_≡_, refl}
 use mathlib.Core.Bool.{true}
@@ -20,7 +21,12 @@ unfolding isSmall
 within-two = refl
 
 value-requires : tie.Need-value-requires
-value-requires c κs = record { some = lit≤ tt; summable = record { few = lit≤ tt; small = within-two }; placed = record { long = lit≤ tt; short = lit≤ tt; inside = search needs } }
+value-requires c κs =
+    record {
+      some = lit≤ tt;
+      summable = record { few = lit≤ tt; small = within-two };
+      placed = record { long = lit≤ tt; short = lit≤ tt; inside = search needs };
+    }
 
 delay-requires : tie.Need-delay-requires
 delay-requires c κs = search needs

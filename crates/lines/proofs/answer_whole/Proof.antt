@@ -1,4 +1,5 @@
--- `lines::answer_whole` meets its contract. The invariant: the whole lines of the bytes passed are answered. Assumes nothing.
+-- `lines::answer_whole` meets its contract. The invariant: the whole lines of the bytes passed are
+-- answered. Assumes nothing.
 use borrow.Author.Needs.{needs}
 use borrow.Author.Tests.{ne-eqb}
 use mathlib.Core.Path.{_≡_, refl, sym, _∙_, ap}
@@ -11,29 +12,37 @@ use lib.IntN.{ℤ}
 use lib.ListN.{length, getD, take, drop, length-append}
 use lib.Seq.{length-take-le, take-suc, take-all, take-add, drop-at}
 use Rattle.blocks.specs.declared.answer.Judged.{Judged}
-use Rattle.line.specs.Buffers.{longest, Put}
-use Rattle.line.proofs.Filling.{kept, then-text}
+use Rattle.printing.specs.Buffers.{longest, TextPut}
+use Rattle.printing.proofs.Filling.{length-kept, then-text}
 use Rattle.lines.specs.Output.{outputOf, wholeLines, unfinished, printedFor}
-use Rattle.lines.specs.Buffers.{Answered, Printed}
+use Rattle.lines.specs.Buffers.{LinesAnswered, Printed}
 use Rattle.lines.proofs.Splits.{whole-short, after-whole, whole-grown, whole-ended}
 use Rattle.lines.proofs.Parts.{put-nothing}
 use Rattle.lines.proofs.Pieces.{output-newline, output-nothing}
 use Rattle.lines.proofs.answer_whole.Statement.{statement}
 use Rattle.lines.proofs.answer_whole.Tie as tie
 
-record Passed (text : List ℕ) (table : Judged) (coefficients : List ℤ) (out₀ : List ℕ) (out : List ℕ) (start end i : ℕ) : Type 0 where
+record Passed (text : List ℕ) (table : Judged) (coefficients : List ℤ) (out₀ : List ℕ) (out : List ℕ)
+    (start end i : ℕ) : Type 0 where
   inside : i ≤ length text
   begins : start ≡ length (wholeLines (take i text))
-  put : Put out₀ 0 (outputOf table coefficients (wholeLines (take i text))) out end
+  put : TextPut out₀ 0 (outputOf table coefficients (wholeLines (take i text))) out end
   few : end ≤ longest * start
 
-at-first : (text : List ℕ) (table : Judged) (coefficients : List ℤ) (out : List ℕ) → Passed text table coefficients out out 0 0 0
+at-first : (text : List ℕ) (table : Judged) (coefficients : List ℤ) (out : List ℕ)
+    → Passed text table coefficients out out 0 0 0
 unfolding wholeLines
 at-first text table coefficients out =
-    record { inside = omega arith; begins = refl; put = rw (output-nothing table coefficients) (put-nothing out); few = omega arith }
+    record {
+      inside = omega arith;
+      begins = refl;
+      put = rw (output-nothing table coefficients) (put-nothing out);
+      few = omega arith;
+    }
 
 -- the next byte
-module _ {text : List ℕ} {table : Judged} {coefficients : List ℤ} {out₀ out : List ℕ} {start end i : ℕ} (passed : Passed text table coefficients out₀ out start end i) where
+module _ {text : List ℕ} {table : Judged} {coefficients : List ℤ} {out₀ out : List ℕ} {start end i : ℕ}
+    (passed : Passed text table coefficients out₀ out start end i) where
   before : start ≤ i
   before = omega (arith, whole-short (take i text), length-take-le i text (passed .inside), passed .begins)
 
@@ -49,12 +58,12 @@ module _ {text : List ℕ} {table : Judged} {coefficients : List ℤ} {out₀ ou
       ∙ after-whole (take i text)
 
   -- at the end
-  at-last : length text ≤ i → Answered text table coefficients out₀ out (record { text = start; out = end })
+  at-last : length text ≤ i → LinesAnswered text table coefficients out₀ out (record { text = start; out = end })
   at-last h = let e : take i text ≡ text = take-all i text h in record { begins = rw e at (passed .begins); put = rw e at (passed .put) }
 
   module _ (room : longest * length text ≤ length out₀) where
     same : length out ≡ length out₀
-    same = kept (passed .put) (omega (arith, before, passed .few, passed .inside, passed .put .after))
+    same = length-kept (passed .put) (omega (arith, before, passed .few, passed .inside, passed .put .after))
 
     module _ (more : i < length text) where
       ready : end + longest ≤ length out
@@ -65,22 +74,30 @@ module _ {text : List ℕ} {table : Judged} {coefficients : List ℤ} {out₀ ou
 
       on : (getD text i 0 ≡ 10 → ⊥) → Passed text table coefficients out₀ out start end (i + 1)
       on other =
-          let w : wholeLines (take (i + 1) text) ≡ wholeLines (take i text) = ap wholeLines grown ∙ whole-grown (getD text i 0) (ne-eqb (getD text i 0) 10 other) (take i text) in
+          let w : wholeLines (take (i + 1) text) ≡ wholeLines (take i text) = ap wholeLines grown
+          ∙ whole-grown (getD text i 0) (ne-eqb (getD text i 0) 10 other) (take i text) in
           record { inside = omega arith; begins = rw w (passed .begins); put = rw w (passed .put); few = passed .few }
 
-      module _ {out' : List ℕ} {next : ℕ} (newline : getD text i 0 ≡ 10) (printed : Printed (take (i - start) (drop start text)) table coefficients out end out' next) where
+      module _ {out' : List ℕ} {next : ℕ} (newline : getD text i 0 ≡ 10)
+          (printed : Printed (take (i - start) (drop start text)) table coefficients out end out' next) where
         whole : wholeLines (take (i + 1) text) ≡ wholeLines (take i text ++ (10 ∷ []))
         whole = ap wholeLines (grown ∙ ap (λ (byte : ℕ). take i text ++ (byte ∷ [])) newline)
 
         text-is : outputOf table coefficients (wholeLines (take (i + 1) text))
-            ≡ outputOf table coefficients (wholeLines (take i text)) ++ printedFor table coefficients (take (i - start) (drop start text))
+            ≡ outputOf table coefficients (wholeLines (take i text))
+            ++ printedFor table coefficients (take (i - start) (drop start text))
         text-is = rw line-is (ap (outputOf table coefficients) whole ∙ output-newline table coefficients (take i text))
 
         ended : Passed text table coefficients out₀ out' (i + 1) next (i + 1)
         ended = record {
           inside = omega arith;
-          begins = sym (ap length (whole ∙ whole-ended (take i text)) ∙ length-append (take i text) (10 ∷ []) ∙ ap (λ (n : ℕ). n + 1) (length-take-le i text (passed .inside)));
-          put = rw text-is (then-text (passed .put) (printed .put) (omega (arith, before, passed .few, passed .put .after, printed .put .after, printed .short)));
+          begins =
+              sym
+              (ap length (whole ∙ whole-ended (take i text))
+              ∙ length-append (take i text) (10 ∷ [])
+              ∙ ap (λ (n : ℕ). n + 1) (length-take-le i text (passed .inside)));
+          put =
+              rw text-is (then-text (passed .put) (printed .put) (omega (arith, before, passed .few, passed .put .after, printed .put .after, printed .short)));
           few = omega (arith, before, passed .few, printed .short);
         }
 
@@ -108,7 +125,10 @@ part-answer-line-end c = c .before .before .before .loop .inv .inside
 answer-line-requires : tie.Need-answer-line-requires Inv-loop μ-loop
 answer-line-requires c κs =
     let pre = c .before .before .before .before .before .before .before .before .pre in
-    record { lent = pre .lent; room = ready (c .before .before .before .before .before .loop .inv) (pre .room) (c .before .before .before .before .loop-test .taken) }
+    record {
+      lent = pre .lent;
+      room = ready (c .before .before .before .before .before .loop .inv) (pre .room) (c .before .before .before .before .loop-test .taken);
+    }
 
 add-start : tie.Need-add-start Inv-loop μ-loop
 add-start c = search needs
@@ -124,7 +144,8 @@ loop-again c =
     let p = c .before .before .before .loop .inv in
     let room = c .before .before .before .before .before .before .pre .room in
     let more = c .before .before .loop-test .taken in
-    ⊎-elim (λ w. rw (w .6, w .7, w .8) (ended p room more (w .0 .taken) (w .3 .ensures))) (λ w. rw (w .1, w .2, w .3) (on p room more (w .0 .left))) (c .if1 .came)
+    ⊎-elim (λ w. rw (w .6, w .7, w .8) (ended p room more (w .0 .taken) (w .3 .ensures))) (λ w. rw (w .1, w .2, w .3) (on p room more (w .0 .left)))
+    (c .if1 .came)
 
 same-length : tie.Need-same-length Inv-loop μ-loop
 same-length c = same (c .before .loop .inv) (c .before .before .before .before .pre .room)

@@ -28,7 +28,10 @@ keep-requires : tie.Need-keep-requires
 keep-requires c κs =
     let whole = c .before .before .before in
     let s = whole .before .before .before .before .before in
-    record { ordered = omega (arith, whole .answer-whole .ensures .begins, whole-short (take (s .args .filled) (s .args .text .now)), size s); inside = s .pre .inside }
+    record {
+      ordered = omega (arith, whole .answer-whole .ensures .begins, whole-short (take (s .args .filled) (s .args .text .now)), size s);
+      inside = s .pre .inside;
+    }
 
 same-length : tie.Need-same-length
 same-length c = search needs
@@ -43,7 +46,8 @@ returns c =
     let whole = kept .before .before .before .before in
     let s = whole .before .before .before .before .before in
     let text = take (s .args .filled) (s .args .text .now) in
-    let e : drop (whole .answer-whole .result .text) text ≡ unfinished text = ap (λ (n : ℕ). drop n text) (whole .answer-whole .ensures .begins) ∙ after-whole text in
+    let e : drop (whole .answer-whole .result .text) text ≡ unfinished text = ap (λ (n : ℕ). drop n text) (whole .answer-whole .ensures .begins)
+    ∙ after-whole text in
     record { kept = rw e at (kept .keep .ensures); put = whole .answer-whole .ensures .put }
 
 pub feed-spec : {M : Type 1} → statement M

@@ -1,5 +1,6 @@
--- `lines::keep` meets its contract. The invariant: as many bytes as are counted stand at the front; those that are still to be moved are as they were,
--- since none is moved to a place behind its own. Assumes nothing.
+-- `lines::keep` meets its contract. The invariant: as many bytes as are counted stand at the front;
+-- those that are still to be moved are as they were, since none is moved to a place behind its own.
+-- Assumes nothing.
 use borrow.Author.Needs.{needs}
 use mathlib.Core.Path.{_≡_, sym, _∙_, ap}
 use mathlib.Core.List.{List, [], _∷_, _++_}
@@ -8,8 +9,8 @@ use native.Mathlib.Numerals.{add-one}
 use native.Mathlib.Omega.{arith}
 use lib.ListN.{length, getD, set, take, drop, length-drop}
 use lib.Seq.{length-take-le, take-suc, take-all, getD-take, getD-drop, getD-append-add}
-use Rattle.line.specs.Buffers.{withText, Put}
-use Rattle.line.proofs.Filling.{kept as same-long, then-byte}
+use Rattle.printing.specs.Buffers.{withText, TextPut}
+use Rattle.printing.proofs.Filling.{length-kept, then-byte}
 use Rattle.lines.specs.Buffers.{Moving}
 use Rattle.lines.proofs.Parts.{put-nothing}
 use Rattle.lines.proofs.keep.Statement.{statement}
@@ -22,7 +23,7 @@ part text start end = drop start (take end text)
 record Moved (text₀ : List ℕ) (start end : ℕ) (text : List ℕ) (kept : ℕ) : Type 0 where
   few : kept ≤ 65
   inside : start + kept ≤ end
-  put : Put text₀ 0 (take kept (part text₀ start end)) text kept
+  put : TextPut text₀ 0 (take kept (part text₀ start end)) text kept
 
 module _ {text₀ : List ℕ} {start end : ℕ} (moving : Moving text₀ start end) where
   long : length (part text₀ start end) ≡ end - start
@@ -36,7 +37,7 @@ module _ {text₀ : List ℕ} {start end : ℕ} (moving : Moving text₀ start e
     size = length-take-le kept (part text₀ start end) (omega (arith, long, moved .inside))
 
     same : length text ≡ length text₀
-    same = same-long (moved .put) (omega (arith, size, moved .inside, moving .inside))
+    same = length-kept (moved .put) (omega (arith, size, moved .inside, moving .inside))
 
     -- as it was
     still : getD text (start + kept) 0 ≡ getD text₀ (start + kept) 0
@@ -60,17 +61,21 @@ module _ {text₀ : List ℕ} {start end : ℕ} (moving : Moving text₀ start e
       next less =
           let e : take (kept + 1) (part text₀ start end) ≡ take kept (part text₀ start end) ++ (getD text (start + kept) 0 ∷ []) =
           rw (add-one kept, byte-is) (take-suc (part text₀ start end) kept 0 (omega (arith, long))) in
-          record { few = omega arith; inside = omega arith; put = rw e (then-byte (moved .put) (getD text (start + kept) 0) (omega (arith, size, moving .inside))) }
+          record {
+            few = omega arith;
+            inside = omega arith;
+            put = rw e (then-byte (moved .put) (getD text (start + kept) 0) (omega (arith, size, moving .inside)));
+          }
 
     -- all there are
-    ended : end ≤ start + kept → Put text₀ 0 (take 65 (part text₀ start end)) text kept
+    ended : end ≤ start + kept → TextPut text₀ 0 (take 65 (part text₀ start end)) text kept
     ended h =
         let l = long in
         let e : take 65 (part text₀ start end) ≡ take kept (part text₀ start end) =
         take-all 65 (part text₀ start end) (omega (arith, moved .few)) ∙ sym (take-all kept (part text₀ start end) (omega arith)) in
         rw e (moved .put)
 
-    full : 65 ≤ kept → Put text₀ 0 (take 65 (part text₀ start end)) text kept
+    full : 65 ≤ kept → TextPut text₀ 0 (take 65 (part text₀ start end)) text kept
     full h = let e : 65 ≡ kept = omega (arith, moved .few) in rw (ap (λ (n : ℕ). take n (part text₀ start end)) e) (moved .put)
 
 abbrev Inv-loop : tie.InvT-loop

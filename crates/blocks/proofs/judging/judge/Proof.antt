@@ -1,14 +1,18 @@
--- `blocks::judging::judge` meets its contract: a test passed at a time, in their order. Assumes nothing.
+-- `blocks::judging::judge` meets its contract: a test passed at a time, in their order. Assumes
+-- nothing.
 use Prim.Native.Nat.{ℕ, _*_, zero-le}
-use Rattle.blocks.proofs.Bounding.{whole-told, bounds-told}
-use Rattle.blocks.proofs.Past.{from12, from13, fromFirst, refused10, past10, refused11, past11, refused-first, past-first, refused13-bound, refused13-blocks, past13, refused12, past12, formed12, search-for}
-use Rattle.blocks.proofs.Verdicts.{one-stop, one-go}
-use Rattle.blocks.specs.Bounds.{isWhole, isBounded}
-use Rattle.blocks.specs.Judging.{tableTests, judged}
-use Rattle.blocks.specs.Tests.{judgedBy}
-use Rattle.image.specs.Form.{isFormed}
+use Rattle.granules.specs.Answers.{testedStored}
+use Rattle.image.proofs.Bounding.{bounds-told}
+use Rattle.blocks.proofs.Telling.{tested-is}
+use Rattle.blocks.proofs.Past.{whole-told, from14, from12, from13, fromFirst, refused10, past10, refused11, past11, refused12-first}
+use Rattle.blocks.proofs.Past.{past-first, refused13-bound, refused13-blocks, past13, refused12, past12, formed12, search-for}
+use Rattle.numbers.proofs.Verdicts.{one-stop, one-go}
+use Rattle.image.specs.Bounds.{isBounded}
+use Rattle.blocks.specs.Answers.{judgedTested}
+use Rattle.blocks.specs.Judging.{judgedBy, isWhole, tableTests, judged}
+use Rattle.form.specs.Form.{isFormed}
 use Rattle.image.specs.Image.{tableOf}
-use Rattle.image.specs.Words.{block}
+use Rattle.words.specs.Words.{block}
 use Rattle.image.specs.declared.table.Table.{Table}
 use borrow.Author.Count.{below-none}
 use borrow.Author.Needs.{needs}
@@ -63,7 +67,8 @@ is-bounded c = sym (c .before .bounded .ensures) ∙ not-false _ (c .if4 .left)
 abbrev fourth : tie.Else5 → tie.Else4
 fourth c = c .before .before
 
-by12 : (c : tie.Else5) → judgedBy (tableTests (bytes4 (fourth c .before)) (table4 (fourth c .before))) (table4 (fourth c .before))
+by12 : (c : tie.Else5)
+    → judgedBy (tableTests (bytes4 (fourth c .before)) (table4 (fourth c .before))) (table4 (fourth c .before))
     ≡ judgedBy (from12 (bytes4 (fourth c .before)) (table4 (fourth c .before))) (table4 (fourth c .before))
 by12 c = let a = fourth c .before in past13 (bytes4 a) (table4 a) (by13 (a .before .before) (table4 a)) (is-bounded (fourth c)) (c .if5 .left)
 
@@ -95,7 +100,13 @@ returns-2 c =
 lowest-unformed-requires : tie.Need-lowest-unformed-requires
 lowest-unformed-requires c κs =
     let w = whole-told _ (is-whole (c .before .before)) in
-    record { long = omega (arith, w .blocks, w .some); few = omega arith; granules = zero-le; degree = zero-le; start = zero-le; before = below-none _ }
+    record {
+      bounds = record { granules = zero-le; degree = zero-le };
+      long = omega (arith, w .blocks, w .some);
+      within = omega arith;
+      start = zero-le;
+      before = below-none _;
+    }
 
 refused-requires-3 : tie.Need-refused-requires-3
 refused-requires-3 c κs = search needs
@@ -105,7 +116,8 @@ returns-3 c =
     let l = c .before .before in
     let b = bytes2 (l .before) in
     c .refused3 .ensures
-    ∙ refused-first b (tableOf b) (by-first (l .before) (tableOf b)) (one-stop (λ k. isFormed 0 0 k (block b k)) _ (l .lowest-unformed .ensures) (c .before .if3 .taken))
+    ∙ refused12-first b (tableOf b) (by-first (l .before) (tableOf b))
+    (one-stop (λ k. isFormed 0 0 k (block b k)) _ (l .lowest-unformed .ensures) (c .before .if3 .taken))
     ∙ judged-is b
 
 table-of-requires : tie.Need-table-of-requires
@@ -150,7 +162,8 @@ lowest-unformed-requires-2 c κs =
     let f = c .before in
     let e = fourth f in
     let a = e .before in
-    search-for (bytes4 a) (table4 a) (whole-told _ (is-whole (a .before .before .before .before .before .before))) (bounds-told (table4 a) (is-bounded e)) (f .if5 .left) (first-formed (a .before .before))
+    search-for (bytes4 a) (table4 a) (whole-told _ (is-whole (a .before .before .before .before .before .before))) (bounds-told (table4 a) (is-bounded e))
+    (f .if5 .left) (first-formed (a .before .before))
 
 refused-requires-6 : tie.Need-refused-requires-6
 refused-requires-6 c κs = search needs
@@ -162,21 +175,33 @@ returns-6 c =
     let a = fourth f .before in
     c .refused6 .ensures ∙ refused12 (bytes4 a) (table4 a) (by12 f) _ (l .lowest-unformed2 .ensures) (c .before .if6 .taken) ∙ same-judged a
 
-judge-stored-requires : tie.Need-judge-stored-requires
-judge-stored-requires c κs =
+test-stored-requires : tie.Need-test-stored-requires
+test-stored-requires c κs =
     let f = c .before .before .before in
     let e = fourth f in
     let a = e .before in
     let w = whole-told _ (is-whole (a .before .before .before .before .before .before)) in
-    record { bounded = is-bounded e; long = w .blocks ∙ ap (λ (k : ℕ). k * 512) (f .if5 .left); formed = formed12 (bytes4 a) (table4 a) _ (c .before .lowest-unformed2 .ensures) (c .if6 .left) (f .if5 .left) }
+    record {
+      bounds = bounds-told (table4 a) (is-bounded e);
+      long = w .blocks ∙ ap (λ (k : ℕ). k * 512) (f .if5 .left);
+      formed = formed12 (bytes4 a) (table4 a) _ (c .before .lowest-unformed2 .ensures) (c .if6 .left) (f .if5 .left);
+    }
+
+tested-requires : tie.Need-tested-requires
+tested-requires c κs = search needs
 
 returns-7 : tie.Need-returns-7
+unfolding testedStored
 returns-7 c =
-    let g = c .before in
+    let s = c .before in
+    let g = s .before in
     let l = g .before in
     let f = l .before .before in
     let a = fourth f .before in
-    c .judge-stored .ensures ∙ sym (past12 (bytes4 a) (table4 a) (by12 f) _ (l .lowest-unformed2 .ensures) (g .if6 .left)) ∙ same-judged a
+    c .tested .ensures
+    ∙ ap (judgedTested (table4 a)) (s .test-stored .ensures)
+    ∙ tested-is (from14 (bytes4 a) (table4 a)) (table4 a)
+    ∙ sym (past12 (bytes4 a) (table4 a) (by12 f) _ (l .lowest-unformed2 .ensures) (g .if6 .left)) ∙ same-judged a
 
 pub judge-spec : {M : Type 1} → statement M
 judge-spec =
@@ -204,5 +229,6 @@ judge-spec =
     lowest-unformed-requires-2
     refused-requires-6
     returns-6
-    judge-stored-requires
+    test-stored-requires
+    tested-requires
     returns-7)

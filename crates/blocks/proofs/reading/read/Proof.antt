@@ -1,24 +1,32 @@
 -- `blocks::reading::read` meets its contract: it judges before it stores. Assumes nothing.
-use Rattle.blocks.proofs.Accepting.{AcceptedTable, accepted-told}
-use Rattle.blocks.proofs.Taking.{read-refused, read-unfit, read-done}
+use Rattle.blocks.proofs.Accepting.{storedFor, accepted-of, accepted-blocks}
+use Rattle.granules.specs.Accepted as table
+use Rattle.blocks.proofs.Taking.{read-table-refused, read-unfit, read-done}
 use Rattle.blocks.specs.Judging.{judged}
 use Rattle.blocks.specs.declared.answer.Judged.the-variants.{Accepted}
 use Rattle.image.proofs.Slots.{room}
 use Rattle.image.specs.declared.table.Table.{Table}
+use Prim.Native.Nat.{ℕ}
 use borrow.Author.Needs.{needs}
+use mathlib.Core.List.{List}
 use mathlib.Core.Path.{_≡_, sym, _∙_}
 use native.Mathlib.Omega.{arith}
 use Rattle.blocks.proofs.reading.read.Statement.{statement}
 use Rattle.blocks.proofs.reading.read.Tie as tie
 
+abbrev bytesOf : tie.After-struct-known2 → List ℕ
+bytesOf c = c .before .before .before .before .before .before .before .args .bytes .now
+
 abbrev given : tie.After-struct-known2 → Table
 given c = c .before .before .before .table .given .0 .0
 
-is-accepted : (c : tie.After-struct-known2) → judged (c .before .before .before .before .before .before .before .args .bytes .now) ≡ Accepted (given c)
+is-accepted : (c : tie.After-struct-known2)
+    → judged (bytesOf c) ≡ Accepted (given c)
 is-accepted c = let t = c .before .before .before in sym (t .before .before .judge .ensures) ∙ t .table .given .1
 
-accepted : (c : tie.After-struct-known2) → AcceptedTable (c .before .before .before .before .before .before .before .args .bytes .now) (given c)
-accepted c = accepted-told _ _ (is-accepted c)
+accepted : (c : tie.After-struct-known2)
+    → table.Accepted (given c) (storedFor (bytesOf c) (given c))
+accepted c = accepted-of _ _ (is-accepted c)
 
 judge-requires : tie.Need-judge-requires
 judge-requires c κs = search needs
@@ -39,7 +47,7 @@ add-if1 : tie.Need-add-if1
 add-if1 c = search needs
 
 mul-if1 : tie.Need-mul-if1
-mul-if1 c = let a = accepted c in omega (arith, room (given c .count) (given c .degree) (a .granules) (a .degree))
+mul-if1 c = omega (arith, room (given c .count) (given c .degree) (accepted c .bounds .few))
 
 refused-requires : tie.Need-refused-requires
 refused-requires c κs = search needs
@@ -53,15 +61,18 @@ returns c =
 take-coefficients-requires : tie.Need-take-coefficients-requires
 take-coefficients-requires c κs =
     let e = c .before in
-    let a = accepted (e .before) in
-    record { granules = a .granules; degree = a .degree; blocks = a .blocks; long = e .if1 .left }
+    record {
+      bounds = accepted (e .before) .bounds .few;
+      blocks = accepted-blocks _ _ (is-accepted (e .before));
+      long = e .if1 .left;
+    }
 
 returns-2 : tie.Need-returns-2
 returns-2 c =
     let r = c .before in
     let j = r .before .before in
     let s = j .before .before .args in
-    read-refused (s .bytes .now) (s .coefficients .now) _ (sym (j .judge .ensures) ∙ r .refusal .given .1)
+    read-table-refused (s .bytes .now) (s .coefficients .now) _ (sym (j .judge .ensures) ∙ r .refusal .given .1)
 
 same-length : tie.Need-same-length
 same-length c = search needs

@@ -1,7 +1,7 @@
 -- `blocks::writing::write` meets its contract: it judges before it stores. Assumes nothing.
-use Rattle.blocks.proofs.Bounding.{bounds-told}
-use Rattle.blocks.proofs.Putting.{product, wrote-refused, unfit-list, unfit-buffer, unbounded, by-granules, wrote-done}
-use Rattle.blocks.specs.Bounds.{isBounded}
+use Rattle.image.proofs.Bounding.{bounds-told}
+use Rattle.blocks.proofs.Putting.{product, wrote-refused, unfit-list, unfit-buffer, unbounded, by-refused, wrote-done}
+use Rattle.image.specs.Bounds.{isBounded}
 use Rattle.blocks.specs.Judging.{tableFrom}
 use Rattle.image.specs.declared.table.Table.{Table}
 use borrow.Author.Needs.{needs}
@@ -38,7 +38,8 @@ refused-requires c κs = search needs
 returns : tie.Need-returns
 returns c =
     let s = c .before .before .before in
-    rw (c .refused .ensures) (wrote-refused (table s) (s .args .coefficients .now) (s .args .image .now) _ (unfit-list (table s) (s .args .coefficients .now) (s .args .image .now) (c .before .if1 .taken)))
+    rw (c .refused .ensures) (wrote-refused (table s) (s .args .coefficients .now) (s .args .image .now) _
+    (unfit-list (table s) (s .args .coefficients .now) (s .args .image .now) (c .before .if1 .taken)))
 
 add-if2 : tie.Need-add-if2
 add-if2 c = search needs
@@ -56,7 +57,8 @@ returns-2 : tie.Need-returns-2
 returns-2 c =
     let e = c .before .before in
     let s = e .before .before in
-    rw (c .refused2 .ensures) (wrote-refused (table s) (s .args .coefficients .now) (s .args .image .now) _ (unfit-buffer (table s) (s .args .coefficients .now) (s .args .image .now) (e .if1 .left) (c .before .if2 .taken)))
+    rw (c .refused2 .ensures) (wrote-refused (table s) (s .args .coefficients .now) (s .args .image .now) _
+    (unfit-buffer (table s) (s .args .coefficients .now) (s .args .image .now) (e .if1 .left) (c .before .if2 .taken)))
 
 bounded-requires : tie.Need-bounded-requires
 bounded-requires c κs = search needs
@@ -70,12 +72,14 @@ returns-3 c =
     let f = b .before in
     let e = f .before in
     let s = e .before .before in
-    rw (c .refused3 .ensures) (wrote-refused (table s) (s .args .coefficients .now) (s .args .image .now) _ (unbounded (table s) (s .args .coefficients .now) (s .args .image .now) (e .if1 .left) (f .if2 .left) (rw (length-back s) at (sym (b .bounded .ensures) ∙ not-true _ (c .before .if3 .taken)))))
+    rw (c .refused3 .ensures) (wrote-refused (table s) (s .args .coefficients .now) (s .args .image .now) _
+    (unbounded (table s) (s .args .coefficients .now) (s .args .image .now) (e .if1 .left) (f .if2 .left)
+    (rw (length-back s) at (sym (b .bounded .ensures) ∙ not-true _ (c .before .if3 .taken)))))
 
-judge-listed-requires : tie.Need-judge-listed-requires
-judge-listed-requires c κs =
+test-listed-requires : tie.Need-test-listed-requires
+test-listed-requires c κs =
     let e = c .before .before .before in
-    rw (length-back (e .before .before)) (record { bounded = is-bounded c; long = e .if1 .left })
+    rw (length-back (e .before .before)) (record { bounds = bounds-told _ (is-bounded c); whole = e .if1 .left })
 
 enum-known-refusal : tie.Need-enum-known-refusal
 enum-known-refusal c = search needs
@@ -88,8 +92,8 @@ put-image-requires c κs =
     let h = c .before .before .before .before in
     let f = h .before .before in
     let e = f .before in
-    let o = bounds-told _ (is-bounded h) in
-    rw (length-back (e .before .before)) (record { ready = record { some = o .some; granules = o .granules; degree = o .degree; coefficients = e .if1 .left }; long = f .if2 .left })
+    rw (length-back (e .before .before))
+    (record { table = record { bounds = bounds-told _ (is-bounded h); whole = e .if1 .left }; long = f .if2 .left })
 
 returns-4 : tie.Need-returns-4
 returns-4 c =
@@ -99,8 +103,10 @@ returns-4 c =
     let f = h .before .before in
     let e = f .before in
     let s = e .before .before in
-    let same = rw (length-back s) at (l .judge-listed .ensures) in
-    wrote-refused (table s) (s .args .coefficients .now) (s .args .image .now) _ (sym (r .refusal .given .1) ∙ same ∙ sym (by-granules (table s) (s .args .coefficients .now) (s .args .image .now) (e .if1 .left) (f .if2 .left) (is-bounded h)))
+    let same = rw (length-back s) at (l .test-listed .ensures) in
+    wrote-refused (table s) (s .args .coefficients .now) (s .args .image .now) _
+    (by-refused (table s) (s .args .coefficients .now) (s .args .image .now) (e .if1 .left) (f .if2 .left) (is-bounded h) _
+    (sym (r .refusal .given .1) ∙ same))
 
 same-length : tie.Need-same-length
 same-length c = search needs
@@ -114,9 +120,10 @@ returns-5 c =
     let f = h .before .before in
     let e = f .before in
     let s = e .before .before in
-    let same = rw (length-back s) at (l .judge-listed .ensures) in
+    let same = rw (length-back s) at (l .test-listed .ensures) in
     let put = rw (length-back s) at (p .put-image .ensures) in
-    rw (length-back s) (wrote-done (table s) (s .args .coefficients .now) (s .args .image .now) (e .if1 .left) (f .if2 .left) (is-bounded h) _ _ (sym same ∙ t .enum-told .given .1) put)
+    rw (length-back s) (wrote-done (table s) (s .args .coefficients .now) (s .args .image .now) (e .if1 .left) (f .if2 .left) (is-bounded h) _
+    (sym (t .enum-told .given .1) ∙ same) put)
 
 pub write-spec : {M : Type 1} → statement M
 write-spec =
@@ -134,7 +141,7 @@ write-spec =
     bounded-requires
     refused-requires-3
     returns-3
-    judge-listed-requires
+    test-listed-requires
     enum-known-refusal
     enum-told
     put-image-requires

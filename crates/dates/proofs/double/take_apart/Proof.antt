@@ -1,4 +1,5 @@
--- `dates::double::take_apart` meets its contract: the fields of the bits are the value's. Assumes nothing.
+-- `dates::double::take_apart` meets its contract: the fields of the bits are the value's. Assumes
+-- nothing.
 use mathlib.Core.Path.{sym, subst}
 use Prim.Native.Nat.{ℕ, _+_, _<_, _^_}
 use native.Mathlib.Omega.{arith}
@@ -10,7 +11,7 @@ use lib.Ieee.Bits.{is-true, is-false}
 use mir.Syntax.{w64}
 use mir.ValLaws.{toZ-pos}
 use Rattle.numbers.proofs.Machine.{minus-fits, minus-is}
-use Rattle.dates.proofs.Fields.{no-nan, low-lt, apart}
+use Rattle.dates.proofs.Fields.{no-nan, low-lt, taken-apart}
 use Rattle.dates.proofs.double.take_apart.Statement.{statement}
 use Rattle.dates.proofs.double.take_apart.Tie as tie
 
@@ -47,16 +48,18 @@ sub-t8 c = minus-fits (digits (c .before)) (few (c .before))
 
 returns : tie.Need-returns
 returns c =
-    let a = apart (x (c .before)) (held (c .before)) (c .before .pre) in
-    rw (minus-is (digits (c .before)) (few (c .before))) (rw (is-true (leb (2 ^ 63) (bits (c .before))) (le→leb (2 ^ 63) (bits (c .before)) (c .if1 .taken))) at a)
+    let a = taken-apart (x (c .before)) (held (c .before)) (c .before .pre) in
+    rw (minus-is (digits (c .before)) (few (c .before)))
+    (rw (is-true (leb (2 ^ 63) (bits (c .before))) (le→leb (2 ^ 63) (bits (c .before)) (c .if1 .taken))) at a)
 
 cast-t9 : tie.Need-cast-t9
 cast-t9 c = record { sfits = few (c .before) }
 
 returns-2 : tie.Need-returns-2
 returns-2 c =
-    let a = apart (x (c .before)) (held (c .before)) (c .before .pre) in
-    rw (toZ-pos w64 (digits (c .before)) (few (c .before))) (rw (is-false (leb (2 ^ 63) (bits (c .before))) (lt→nleb (2 ^ 63) (bits (c .before)) (c .if1 .left))) at a)
+    let a = taken-apart (x (c .before)) (held (c .before)) (c .before .pre) in
+    rw (toZ-pos w64 (digits (c .before)) (few (c .before)))
+    (rw (is-false (leb (2 ^ 63) (bits (c .before))) (lt→nleb (2 ^ 63) (bits (c .before)) (c .if1 .left))) at a)
 
 pub take-apart-spec : {M : Type 1} → statement M
 take-apart-spec = tie.close (tie.spec float-to-bits-bits add-digits cast-t7 sub-t8 returns cast-t9 returns-2)

@@ -1,4 +1,5 @@
--- `dates::reading::no_date` meets its contract: the tests in the page's order, of which the last is left. Assumes nothing.
+-- `dates::reading::no_date` meets its contract: the tests in the page's order, of which the last is
+-- left. Assumes nothing.
 use borrow.Author.Needs.{needs}
 use borrow.Author.Tests.{not-true, not-false}
 use mathlib.Core.Path.{_≡_, sym, _∙_}
@@ -57,7 +58,8 @@ returns-3 c =
     let b : beyond mostDays (d .before .before .args .first) ≡ true = sym (g .beyond-days .ensures) ∙ c .before .if3 .taken in
     rw (first-finite d, second-finite e, b) (c .refused3 .ensures)
 
-first-within : (c : tie.Else3) → beyond mostDays (c .before .before .before .before .before .before .args .first) ≡ false
+first-within : (c : tie.Else3)
+    → beyond mostDays (c .before .before .before .before .before .before .args .first) ≡ false
 first-within c = sym (c .before .beyond-days .ensures) ∙ c .if3 .left
 
 refused-requires-4 : tie.Need-refused-requires-4
@@ -74,4 +76,7 @@ returns-4 c =
     rw (first-finite d, second-finite e, first-within f, b) (c .refused4 .ensures)
 
 pub no-date-spec : {M : Type 1} → statement M
-no-date-spec = tie.close (tie.spec is-finite-requires refused-requires returns is-finite-requires-2 refused-requires-2 returns-2 beyond-days-requires refused-requires-3 returns-3 refused-requires-4 returns-4)
+no-date-spec =
+    tie.close
+    (tie.spec is-finite-requires refused-requires returns is-finite-requires-2 refused-requires-2 returns-2
+    beyond-days-requires refused-requires-3 returns-3 refused-requires-4 returns-4)

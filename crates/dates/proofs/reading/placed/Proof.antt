@@ -1,4 +1,5 @@
--- `dates::reading::placed` meets its contract: what is not refused for its units fits 64 bits. Assumes nothing.
+-- `dates::reading::placed` meets its contract: what is not refused for its units fits 64 bits.
+-- Assumes nothing.
 use borrow.Author.Needs.{needs}
 use mathlib.Core.Path.{_≡_, sym, ap, _∙_}
 use Prim.Native.Nat.{_≤_}
@@ -81,10 +82,12 @@ returns-2 c =
     c .refused2 .ensures
     ∙ sym (too-early (per s) (most s) (s .pre .1) (s .args .span) (s .pre .0) (lt-yes _ _ (rw (units-are s, minus-is s) at (c .before .if2 .taken))))
 
-few : (c : tie.Else2) → natAbs (units (c .before .before .before) *ℤ per (c .before .before .before)) ≤ 8640000000000000000
+few : (c : tie.Else2)
+    → natAbs (units (c .before .before .before) *ℤ per (c .before .before .before)) ≤ 8640000000000000000
 few c =
     let s = c .before .before .before in
-    units-size (per s) (most s) (s .pre .1) (units s) (lt-no _ _ (rw (units-are s, most-is s) at (c .before .if1 .left))) (lt-no _ _ (rw (units-are s, minus-is s) at (c .if2 .left)))
+    units-size (per s) (most s) (s .pre .1) (units s) (lt-no _ _ (rw (units-are s, most-is s) at (c .before .if1 .left)))
+    (lt-no _ _ (rw (units-are s, minus-is s) at (c .if2 .left)))
 
 mul-ranged : tie.Need-mul-ranged
 mul-ranged c = product-fits (c .before .before .before) (few c)

@@ -1,4 +1,5 @@
--- `dates::reading::since_j2000` meets its contract: the tests in the page's order, and J2000 added. Assumes nothing.
+-- `dates::reading::since_j2000` meets its contract: the tests in the page's order, and J2000 added.
+-- Assumes nothing.
 use borrow.Author.Needs.{needs}
 use borrow.Author.Tests.{not-true, not-false}
 use mathlib.Core.Path.{_≡_, refl, sym, ap, _∙_}
@@ -7,7 +8,7 @@ use lib.Dec.{lit≤}
 use lib.Ieee.Scale.{finite}
 use Rattle.dates.specs.Doubles.{beyond}
 use Rattle.dates.specs.Readings.{inRange, readOf, mostSeconds}
-use Rattle.dates.specs.Inner.{Within}
+use Rattle.dates.specs.Inner.{SpanWithin}
 use Rattle.dates.proofs.Spans.{j2000Span, looser, sum-sized, seconds-worth}
 use Rattle.dates.proofs.Values.{passes}
 use Rattle.dates.proofs.reading.since_j2000.Statement.{statement}
@@ -50,7 +51,7 @@ ticks-of-seconds-requires : tie.Need-ticks-of-seconds-requires
 ticks-of-seconds-requires c κs = passes _ _ (finitely (c .before .before)) (within c)
 
 -- J2000 is as small as any part
-constant : Within 1000000000000000 j2000Span
+constant : SpanWithin 1000000000000000 j2000Span
 constant = record { units = lit≤ tt; ticks = lit≤ tt }
 
 plus-requires : tie.Need-plus-requires
@@ -58,7 +59,9 @@ plus-requires c κs = (looser _ _ (c .ticks-of-seconds .result) (lit≤ tt) (c .
 
 placed-requires : tie.Need-placed-requires
 placed-requires c κs = (
-  looser _ _ (c .plus .result) (lit≤ tt) (sum-sized _ _ (c .before .ticks-of-seconds .result) j2000Span (c .plus .result) (c .before .ticks-of-seconds .ensures .small) constant (c .plus .ensures)),
+  looser _ _ (c .plus .result) (lit≤ tt)
+      (sum-sized _ _ (c .before .ticks-of-seconds .result) j2000Span (c .plus .result)
+      (c .before .ticks-of-seconds .ensures .small) constant (c .plus .ensures)),
   record { perIs = refl; mostIs = refl; days = refl },
 )
 
@@ -68,7 +71,8 @@ returns-3 c =
     let p = c .before in
     let t = p .before in
     let e = t .before in
-    rw (finitely (e .before .before), within e) (c .placed .ensures ∙ ap inRange (seconds-worth _ (t .ticks-of-seconds .result) (p .plus .result) (t .ticks-of-seconds .ensures) (p .plus .ensures)))
+    rw (finitely (e .before .before), within e)
+    (c .placed .ensures ∙ ap inRange (seconds-worth _ (t .ticks-of-seconds .result) (p .plus .result) (t .ticks-of-seconds .ensures) (p .plus .ensures)))
 
 pub since-j2000-spec : {M : Type 1} → statement M
 since-j2000-spec =

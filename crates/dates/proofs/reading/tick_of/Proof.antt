@@ -33,7 +33,8 @@ returns-2 c = rw (c .before .before .reading2 .given .1) (c .since-j2000 .ensure
 
 returns-3 : tie.Need-returns-3
 unfolding readOf
-returns-3 c = rw (c .before .before .reading3 .given .1) (c .ranged .ensures ∙ ap inRange (toZ-ofZ w64 _ (record { sfits = c .before .known-told3 .given .0 .1 })))
+returns-3 c =
+    rw (c .before .before .reading3 .given .1) (c .ranged .ensures ∙ ap inRange (toZ-ofZ w64 _ (record { sfits = c .before .known-told3 .given .0 .1 })))
 
 pub tick-of-spec : {M : Type 1} → statement M
 tick-of-spec =

@@ -1,4 +1,5 @@
--- `dates::span::plus` meets its contract: numbers up to 10^16, and their sums, fit. Assumes nothing.
+-- `dates::span::plus` meets its contract: numbers up to 10^16, and their sums, fit. Assumes
+-- nothing.
 use mathlib.Core.Path.{_≡_, _∙_}
 use Prim.Native.Nat.{_≤_}
 use native.Mathlib.Omega.{arith}

@@ -11,13 +11,13 @@ use lib.Signed.{shrZ}
 use Rattle.numbers.specs.Rounding.{floorDiv}
 use Rattle.numbers.proofs.Machine.{fits-small, read, read-is, shr-floor}
 use Rattle.numbers.proofs.Rounding.{floor-small}
-use Rattle.dates.proofs.Values.{reach, no-tick, small-part, whole-part}
+use Rattle.dates.proofs.Values.{exponent-reach, no-tick, small-part, whole-part}
 use Rattle.dates.proofs.ticks.count_of.Statement.{statement}
 use Rattle.dates.proofs.ticks.count_of.Tie as tie
 
 -- the exponent of an x in range
 low : (c : tie.After-take-apart) → c .take-apart .result .exponent ≤ 1056
-low c = let r = c .take-apart .result in reach (c .before .args .x) (r .digits) (r .exponent) (c .take-apart .ensures) (c .before .pre .0)
+low c = let r = c .take-apart .result in exponent-reach (c .before .args .x) (r .digits) (r .exponent) (c .take-apart .ensures) (c .before .pre .0)
 
 digits-are : (c : tie.After-take-apart) → read (c .take-apart .result .digits) ≡ c .take-apart .result .digits
 digits-are c = let z = c .take-apart .result .digits in read-is z (fits-small z (2 ^ 53) (le-of-lt (c .take-apart .ensures .small)) (lit< tt))
@@ -25,7 +25,8 @@ digits-are c = let z = c .take-apart .result .digits in read-is z (fits-small z 
 units-are : (z : ℤ) (k : ℕ) → natAbs z ≤ 2 ^ 53 → read (shrZ z (2 ^ k)) ≡ floorDiv z (2 ^ k)
 units-are z k h =
     rw (shr-floor z (2 ^ k))
-    (read-is _ (fits-small _ (2 ^ 53) (floor-small z (2 ^ k) (2 ^ 53) (pow-pos k) (le-trans h (omega (arith, mul-le-mul-right (2 ^ 53) (pow-pos k))))) (lit< tt)))
+    (read-is _
+    (fits-small _ (2 ^ 53) (floor-small z (2 ^ k) (2 ^ 53) (pow-pos k) (le-trans h (omega (arith, mul-le-mul-right (2 ^ 53) (pow-pos k))))) (lit< tt)))
 
 take-apart-requires : tie.Need-take-apart-requires
 take-apart-requires c κs = search needs
@@ -83,7 +84,8 @@ returns-3 c =
     whole-part (t .before .args .x) (r .digits) (r .exponent) (t .take-apart .ensures) (low t) (le-trans (e .if1 .left) (lit≤ tt))
     (t .before .args .odd) (t .before .args .twos) _ (t .before .pre .1) (t .before .pre .0) (e .if1 .left)
     (rw (digits-are t) (units-are (r .digits) (1075 - r .exponent) (le-of-lt (t .take-apart .ensures .small))))
-    (read-is (c .part-of-unit2 .result) (record { sfits = c .part-of-unit2 .ok }) ∙ c .part-of-unit2 .ensures ∙ rw (fraction, f .fraction-of .ensures, digits-are t))
+    (read-is (c .part-of-unit2 .result) (record { sfits = c .part-of-unit2 .ok })
+    ∙ c .part-of-unit2 .ensures ∙ rw (fraction, f .fraction-of .ensures, digits-are t))
 
 pub count-of-spec : {M : Type 1} → statement M
 count-of-spec =

@@ -1,11 +1,12 @@
--- `dates::ticks::part_of_unit` meets its contract: it is the rounded product of `Pieces`. Assumes nothing.
+-- `dates::ticks::part_of_unit` meets its contract: it is the rounded product of `Pieces`. Assumes
+-- nothing.
 use borrow.Author.Needs.{needs}
-use Rattle.dates.proofs.Pieces.{Safe, safe}
+use Rattle.dates.proofs.Pieces.{PartSafe, part-safe}
 use Rattle.dates.proofs.ticks.part_of_unit.Statement.{statement}
 use Rattle.dates.proofs.ticks.part_of_unit.Tie as tie
 
-all : (c : tie.Start) → Safe (c .args .odd) (c .args .part) (c .args .by)
-all c = safe (c .args .odd) (c .args .part) (c .args .by) (c .fits .part) (c .pre)
+all : (c : tie.Start) → PartSafe (c .args .odd) (c .args .part) (c .args .by)
+all c = part-safe (c .args .odd) (c .args .part) (c .args .by) (c .fits .part) (c .pre)
 
 cast-factor : tie.Need-cast-factor
 cast-factor c = search needs

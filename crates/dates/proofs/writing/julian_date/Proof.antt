@@ -1,4 +1,5 @@
--- `dates::writing::julian_date` meets its contract: the half days are cast exactly. Assumes nothing.
+-- `dates::writing::julian_date` meets its contract: the half days are cast exactly. Assumes
+-- nothing.
 use borrow.Author.Needs.{needs}
 use mathlib.Core.Path.{_≡_, refl}
 use native.Mathlib.Omega.{arith}

@@ -1,4 +1,5 @@
--- `dates::writing::part_of_day` meets its contract: a day has fewer than 2^53 ticks. Assumes nothing.
+-- `dates::writing::part_of_day` meets its contract: a day has fewer than 2^53 ticks. Assumes
+-- nothing.
 use mathlib.Core.Path.{_≡_, refl}
 use native.Mathlib.Omega.{arith}
 use lib.IntN.{pos}

@@ -1,4 +1,5 @@
--- `dates::writing::since_first` meets its contract: the sum fits 63 bits where the tick is negative, and 64 where it is not. Assumes nothing.
+-- `dates::writing::since_first` meets its contract: the sum fits 63 bits where the tick is
+-- negative, and 64 where it is not. Assumes nothing.
 use mathlib.Core.Path.{_≡_, refl}
 use Prim.Native.Nat.{ℕ, _+_, _^_, _≤_, _<_}
 use native.Mathlib.Omega.{arith}
@@ -12,7 +13,7 @@ use Rattle.numbers.proofs.Differences.{rep, lin}
 use Rattle.numbers.proofs.Machine.{fits, lt-yes, lt-no}
 use Rattle.scales.specs.Tick.{furthest}
 use Rattle.dates.specs.Inner.{Since}
-use Rattle.dates.proofs.Days.{ahead, counted}
+use Rattle.dates.proofs.Days.{ahead, days-counted}
 use Rattle.dates.proofs.writing.since_first.Statement.{statement}
 use Rattle.dates.proofs.writing.since_first.Tie as tie
 
@@ -53,7 +54,7 @@ cast-result : tie.Need-cast-result
 cast-result c = rw (toZ-ofZ w64 _ (add-result c), back (c .before)) (cast _ (lit≤ tt) (lit< tt) _ (c .before .pre) (before-it c))
 
 returns : tie.Need-returns
-returns c = rw (toZ-ofZ w64 _ (add-result c), back (c .before)) (counted (c .before .args .tick) (c .before .pre))
+returns c = rw (toZ-ofZ w64 _ (add-result c), back (c .before)) (days-counted (c .before .args .tick) (c .before .pre))
 
 cast-result-2 : tie.Need-cast-result-2
 cast-result-2 c = rw (back (c .before)) (other c .cast)

@@ -1,4 +1,5 @@
--- `dates::writing::write_date` meets its contract: the days and the ticks of the day are the definition's. Assumes nothing.
+-- `dates::writing::write_date` meets its contract: the days and the ticks of the day are the
+-- definition's. Assumes nothing.
 use borrow.Author.Needs.{needs}
 use borrow.Author.Tests.{not-true, not-false}
 use mathlib.Core.Path.{_≡_, sym, _∙_}
@@ -10,7 +11,7 @@ use Rattle.scales.specs.Tick.{isValid}
 use Rattle.scales.proofs.Range.{valid-size}
 use Rattle.dates.specs.Written.{writtenOf, dateOf, firstPart, secondPart}
 use Rattle.dates.specs.Inner.{Since}
-use Rattle.dates.proofs.Days.{first-is, second-is}
+use Rattle.dates.proofs.Days.{first-half-is, ticks-of-day-is}
 use Rattle.dates.proofs.writing.write_date.Statement.{statement}
 use Rattle.dates.proofs.writing.write_date.Tie as tie
 
@@ -22,7 +23,9 @@ valid-requires c κs = search needs
 
 returns : tie.Need-returns
 unfolding writtenOf
-returns c = let no : isValid (c .before .before .args .tick) ≡ false = rw (back (c .before .before)) at (sym (c .before .valid .ensures) ∙ not-true _ (c .if1 .taken)) in rw no
+returns c =
+    let no : isValid (c .before .before .args .tick) ≡ false = rw (back (c .before .before)) at
+    (sym (c .before .valid .ensures) ∙ not-true _ (c .if1 .taken)) in rw no
 
 valid-yes : (c : tie.Else1) → isValid (c .before .before .args .tick) ≡ true
 valid-yes c = rw (back (c .before .before)) at (sym (c .before .valid .ensures) ∙ not-false _ (c .if1 .left))
@@ -44,7 +47,7 @@ unfolding writtenOf dateOf firstPart secondPart
 returns-2 c =
     let s = c .before .before in
     let t = s .before .before .before .args .tick in
-    rw (valid-yes (s .before), c .before .julian-date .ensures, c .part-of-day .ensures, first-is t _ (counted s), second-is t _ (counted s))
+    rw (valid-yes (s .before), c .before .julian-date .ensures, c .part-of-day .ensures, first-half-is t _ (counted s), ticks-of-day-is t _ (counted s))
 
 pub write-date-spec : {M : Type 1} → statement M
 write-date-spec = tie.close (tie.spec valid-requires returns since-first-requires julian-date-requires part-of-day-requires returns-2)

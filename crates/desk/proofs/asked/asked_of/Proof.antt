@@ -1,32 +1,16 @@
 -- `desk::asked::asked_of` meets its contract. Assumes nothing.
 use borrow.Author.Needs.{needs}
 use mathlib.Core.Path.{_≡_, sym, _∙_}
-use mathlib.Core.Bool.{Bool}
-use Prim.Native.Nat.{ℕ}
-use Rattle.scales.specs.declared.answer.Refusal.{Refusal}
 use Rattle.scales.specs.declared.scale.Named.the-variants as N
 use Rattle.scales.specs.declared.scale.Scale.{Scale}
 use Rattle.scales.specs.Scales.{scaleOf}
-use Rattle.desk.specs.declared.asked.Asked.the-variants.{Refused}
-use Rattle.desk.specs.Asked.{askedBetween, askedOf}
+use Rattle.desk.proofs.Asking.{from-refused, to-refused, both-named}
 use Rattle.desk.proofs.asked.asked_of.Statement.{statement}
 use Rattle.desk.proofs.asked.asked_of.Tie as tie
 
-module _ (from to : ℕ) (fits : Bool) where
-  by-from : (refusal : Refusal) → scaleOf from 0 ≡ N.Refused refusal → Refused refusal ≡ askedOf from to fits
-  unfolding askedOf
-  by-from refusal e = rw e
-
-  by-to : (start : Scale) (refusal : Refusal) → scaleOf from 0 ≡ N.Scale start → scaleOf to 1 ≡ N.Refused refusal → Refused refusal ≡ askedOf from to fits
-  unfolding askedOf
-  by-to start refusal d e = rw (d, e)
-
-  by-neither : (start end : Scale) → scaleOf from 0 ≡ N.Scale start → scaleOf to 1 ≡ N.Scale end → askedBetween start end fits ≡ askedOf from to fits
-  unfolding askedOf
-  by-neither start end d e = rw (d, e)
-
 -- the first scale, where the second code is looked at
-from-is : (c : tie.After-known-told2) → scaleOf (c .before .before .before .before .args .from) 0 ≡ N.Scale (c .before .start .given .0 .0)
+from-is : (c : tie.After-known-told2) → let s = c .before .before .before .before .args in
+    scaleOf (s .purpose) (s .from) 0 ≡ N.Scale (c .before .start .given .0 .0)
 from-is c = sym (c .before .before .before .scale-of .ensures) ∙ c .before .start .given .1
 
 scale-of-requires : tie.Need-scale-of-requires
@@ -53,17 +37,17 @@ asked-between-requires c κs = search needs
 returns : tie.Need-returns
 returns c =
     let a = c .before .before .before in
-    by-from _ _ _ _ (sym (a .scale-of .ensures) ∙ c .before .refusal .given .1)
+    from-refused _ _ _ _ _ (sym (a .scale-of .ensures) ∙ c .before .refusal .given .1)
 
 returns-2 : tie.Need-returns-2
 returns-2 c =
     let b = c .before .before .before in
-    by-to _ _ _ _ _ (from-is (b .before)) (sym (b .scale-of2 .ensures) ∙ c .before .refusal2 .given .1)
+    to-refused _ _ _ _ _ (from-is (b .before)) _ (sym (b .scale-of2 .ensures) ∙ c .before .refusal2 .given .1)
 
 returns-3 : tie.Need-returns-3
 returns-3 c =
     let b = c .before .before .before .before in
-    c .asked-between .ensures ∙ by-neither _ _ _ _ _ (from-is (b .before)) (sym (b .scale-of2 .ensures) ∙ c .before .before .end .given .1)
+    c .asked-between .ensures ∙ both-named _ _ _ _ _ (from-is (b .before)) _ (sym (b .scale-of2 .ensures) ∙ c .before .before .end .given .1)
 
 pub asked-of-spec : {M : Type 1} → statement M
 asked-of-spec =

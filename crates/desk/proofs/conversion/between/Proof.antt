@@ -6,23 +6,24 @@ use lib.IntN.{ℤ}
 use mir.Syntax.{w64}
 use mir.ValLaws.{toZ-ofZ}
 use Rattle.scales.specs.declared.answer.Answer.the-variants.{Refused}
-use Rattle.scales.specs.declared.answer.Refusal.{Refusal}
+use Rattle.scales.specs.declared.refusal.Refusal.{Refusal}
 use Rattle.scales.specs.declared.scale.Scale.{Scale}
-use Rattle.scales.specs.Path.{path}
 use Rattle.dates.specs.declared.reading.Read.{Read}
 use Rattle.dates.specs.declared.reading.Read.the-variants as R
-use Rattle.desk.specs.declared.walk.Kept.{Kept}
-use Rattle.desk.specs.Walk.{walkOf}
+use Rattle.walk.specs.declared.kept.Kept.{Kept}
+use Rattle.walk.specs.Walk.{walkBetween}
 use Rattle.desk.specs.Conversion.{betweenOf}
 use Rattle.desk.proofs.conversion.between.Statement.{statement}
 use Rattle.desk.proofs.conversion.between.Tie as tie
 
 module _ (from to : Scale) (read : Read) (kept : Kept) (coefficients : List ℤ) where
-  by-tick : (tick : ℤ) → read ≡ R.Tick tick → walkOf kept coefficients (path from to) from 0 tick ≡ betweenOf from to read kept coefficients
+  by-tick : (tick : ℤ) → read ≡ R.Tick tick
+      → walkBetween kept coefficients from to tick ≡ betweenOf from to read kept coefficients
   unfolding betweenOf
   by-tick tick e = rw e
 
-  by-refusal : (refusal : Refusal) → read ≡ R.Refused refusal → Refused refusal ≡ betweenOf from to read kept coefficients
+  by-refusal : (refusal : Refusal) → read ≡ R.Refused refusal
+      → Refused refusal ≡ betweenOf from to read kept coefficients
   unfolding betweenOf
   by-refusal refusal e = rw e
 

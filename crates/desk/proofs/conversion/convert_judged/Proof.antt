@@ -2,7 +2,7 @@
 use borrow.Author.Needs.{needs}
 use mathlib.Core.Path.{sym, _∙_}
 use Rattle.desk.proofs.Asking.{by-asked}
-use Rattle.desk.proofs.Opening.{nothing-held}
+use Rattle.walk.proofs.Holding.{nothing-held}
 use Rattle.desk.proofs.conversion.convert_judged.Statement.{statement}
 use Rattle.desk.proofs.conversion.convert_judged.Tie as tie
 
@@ -34,17 +34,17 @@ returns : tie.Need-returns
 returns c =
     let a = c .before .before .before .before .before in
     c .between .ensures
-    ∙ by-asked _ _ _ _ _ (sym (a .asked-of .ensures) ∙ c .before .before .before .start .given .1) (sym (a .before .tick-of .ensures)) _ _
+    ∙ by-asked _ _ _ _ _ _ _ _ (sym (a .asked-of .ensures) ∙ c .before .before .before .start .given .1) (sym (a .before .tick-of .ensures))
 
 returns-2 : tie.Need-returns-2
 returns-2 c =
     let a = c .before .before .before .before in
-    c .crossed .ensures ∙ by-asked _ _ _ _ _ (sym (a .asked-of .ensures) ∙ c .before .before .start2 .given .1) (sym (a .before .tick-of .ensures)) _ _
+    c .crossed .ensures ∙ by-asked _ _ _ _ _ _ _ _ (sym (a .asked-of .ensures) ∙ c .before .before .start2 .given .1) (sym (a .before .tick-of .ensures))
 
 returns-3 : tie.Need-returns-3
 returns-3 c =
     let a = c .before .before .before in
-    by-asked _ _ _ _ _ (sym (a .asked-of .ensures) ∙ c .before .refusal .given .1) (sym (a .before .tick-of .ensures)) _ _
+    by-asked _ _ _ _ _ _ _ _ (sym (a .asked-of .ensures) ∙ c .before .refusal .given .1) (sym (a .before .tick-of .ensures))
 
 pub convert-judged-spec : {M : Type 1} → statement M
 convert-judged-spec =

@@ -1,6 +1,6 @@
 -- `desk::conversion::crossed` meets its contract. Assumes nothing.
 use borrow.Author.Needs.{needs}
-use Rattle.desk.proofs.Opening.{accepted-held}
+use Rattle.walk.proofs.Holding.{accepted-held}
 use Rattle.desk.proofs.conversion.crossed.Statement.{statement}
 use Rattle.desk.proofs.conversion.crossed.Tie as tie
 

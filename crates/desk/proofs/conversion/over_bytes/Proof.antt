@@ -3,7 +3,7 @@ use borrow.Author.Needs.{needs}
 use mathlib.Core.Path.{_≡_, sym, _∙_}
 use Rattle.blocks.specs.declared.answer.Judged.the-variants as J
 use Rattle.blocks.specs.Judging.{judged}
-use Rattle.desk.proofs.Opening.{coefficients-are}
+use Rattle.opened.proofs.Opening.{coefficients-are}
 use Rattle.desk.proofs.conversion.over_bytes.Statement.{statement}
 use Rattle.desk.proofs.conversion.over_bytes.Tie as tie
 
@@ -14,7 +14,8 @@ enum-known-table : tie.Need-enum-known-table
 enum-known-table c = search needs
 
 -- the bytes were judged to hold the table
-opened : (c : tie.After-known-told) → judged (c .before .before .before .before .before .args .bytes .now) ≡ J.Accepted (c .before .table .given .0 .0)
+opened : (c : tie.After-known-told)
+    → judged (c .before .before .before .before .before .args .bytes .now) ≡ J.Accepted (c .before .table .given .0 .0)
 opened c = sym (c .before .before .before .judge .ensures) ∙ c .before .table .given .1
 
 taken-over-requires : tie.Need-taken-over-requires

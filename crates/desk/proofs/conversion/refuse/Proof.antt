@@ -3,10 +3,10 @@ use borrow.Author.Needs.{needs}
 use mathlib.Core.Path.{_≡_, refl}
 use mathlib.Core.List.{[]}
 use Rattle.scales.specs.declared.answer.Answer.the-variants.{Refused}
-use Rattle.scales.specs.declared.answer.Refusal.{Refusal}
+use Rattle.scales.specs.declared.refusal.Refusal.{Refusal}
 use Rattle.scales.specs.declared.scale.Scale.{Scale}
 use Rattle.dates.specs.declared.reading.Read.the-variants as R
-use Rattle.desk.specs.declared.walk.Kept.the-variants.{Nothing}
+use Rattle.walk.specs.declared.kept.Kept.the-variants.{Nothing}
 use Rattle.desk.specs.Conversion.{betweenOf}
 use Rattle.desk.proofs.conversion.refuse.Statement.{statement}
 use Rattle.desk.proofs.conversion.refuse.Tie as tie

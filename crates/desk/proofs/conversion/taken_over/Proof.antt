@@ -1,8 +1,10 @@
--- `desk::conversion::taken_over` meets its contract: the front of the room is lent, which is the table's coefficients. Assumes nothing.
+-- `desk::conversion::taken_over` meets its contract: the front of the room is lent, which is the
+-- table's coefficients. Assumes nothing.
 use borrow.Author.Needs.{needs}
 use mathlib.Core.Path.{sym}
 use lib.Seq.{length-take-le}
-use Rattle.desk.proofs.Opening.{table-held, few}
+use Rattle.walk.proofs.Holding.{table-held}
+use Rattle.opened.proofs.Opening.{few}
 use Rattle.desk.proofs.conversion.taken_over.Statement.{statement}
 use Rattle.desk.proofs.conversion.taken_over.Tie as tie
 

@@ -1,4 +1,5 @@
--- `ephemeris::places::delay_at` meets its contract: the part of the list is granule g's coefficients, and the place in it is i − gH. Assumes nothing.
+-- `ephemeris::places::delay_at` meets its contract: the part of the list is granule g's
+-- coefficients, and the place in it is i − gH. Assumes nothing.
 use borrow.Author.Needs.{needs}
 use mathlib.Core.Path.{_≡_, _∙_, ap}
 use mathlib.Core.List.{List}
@@ -13,7 +14,8 @@ use Rattle.numbers.proofs.Machine.{read, read-is}
 use Rattle.granule.specs.Rule.{delayOf, valueAt, delayAt}
 use Rattle.granule.specs.Asked.{Evaluable}
 use Rattle.image.specs.declared.table.Table.{Table}
-use Rattle.ephemeris.specs.Table.{lastPlace, granuleOf, placeIn, coefficientsOf, tableDelay}
+use Rattle.image.specs.Image.{granuleIn}
+use Rattle.ephemeris.specs.Table.{lastPlace, granuleOf, placeIn, tableDelay}
 use Rattle.ephemeris.specs.Asked.{Placed}
 use Rattle.ephemeris.proofs.Bounds.{length-is, length-cast, last-small}
 use Rattle.ephemeris.proofs.Granules.{at, evaluable}
@@ -35,17 +37,18 @@ record Safe (T : Table) (cs : List ℤ) (i g : ℕ) : Type 0 where
   start : Fits w64 (g * natAbs (read (T .length)))
   low : g * natAbs (read (T .length)) ≤ i
   asked : Evaluable (partOf T cs g) (i - g * natAbs (read (T .length))) (natAbs (read (T .length)))
-  is : delayOf (valueAt (partOf T cs g) (i - g * natAbs (read (T .length))) (natAbs (read (T .length)))) ≡ tableDelay T cs i
+  is : delayOf (valueAt (partOf T cs g) (i - g * natAbs (read (T .length))) (natAbs (read (T .length))))
+      ≡ tableDelay T cs i
 
 safe : (T : Table) (cs : List ℤ) (i : ℕ) → Placed T cs i → Safe T cs i (granuleOf T i)
-unfolding tableDelay delayAt coefficientsOf placeIn lastPlace
+unfolding tableDelay delayAt granuleIn placeIn lastPlace
 safe T cs i p =
     let A = p .accepted in
     let B = A .bounds in
     let g = granuleOf T i in
     let a = at T B i (p .inside) in
     let end : fromOf T g + (T .degree + 1) ≤ length cs = omega (arith, A .whole, mul-le-mul-right (T .degree + 1) (a .there)) in
-    let all : length cs ≤ 5760 = omega (arith, A .whole, mul-le-mul-right (T .degree + 1) (B .few), B .degree) in
+    let all : length cs ≤ 5760 = omega (arith, A .whole, mul-le-mul-right (T .degree + 1) (B .few .granules), B .few .degree) in
     let part : fromOf T g + (T .degree + 1) - fromOf T g ≡ T .degree + 1 = omega arith in
     record {
       from = record { fits = omega arith };
@@ -58,7 +61,9 @@ safe T cs i p =
       is = rw (part, length-is T B);
     }
 
-all : (c : tie.After-granule-of) → Safe (c .before .args .table) (c .before .args .coefficients .now) (c .before .args .place) (c .granule-of .result)
+all : (c : tie.After-granule-of)
+    → Safe (c .before .args .table) (c .before .args .coefficients .now) (c .before .args .place)
+    (c .granule-of .result)
 all c = rw (c .granule-of .ensures) (safe (c .before .args .table) (c .before .args .coefficients .now) (c .before .args .place) (c .before .pre))
 
 granule-of-requires : tie.Need-granule-of-requires

@@ -1,4 +1,5 @@
--- `ephemeris::places::last_place` meets its contract: 360 granules of 2^50 ticks fit. Assumes nothing.
+-- `ephemeris::places::last_place` meets its contract: 360 granules of 2^50 ticks fit. Assumes
+-- nothing.
 use borrow.Author.Needs.{needs}
 use mathlib.Core.Path.{_≡_}
 use Prim.Native.Nat.{_*_}

@@ -1,4 +1,5 @@
--- `ephemeris::places::tick_at` meets its contract: every tick of a table is a valid epoch. Assumes nothing.
+-- `ephemeris::places::tick_at` meets its contract: every tick of a table is a valid epoch. Assumes
+-- nothing.
 use mathlib.Core.Path.{_≡_}
 use Prim.Native.Nat.{ℕ, _^_, _<_}
 use native.Mathlib.Omega.{arith}
@@ -32,14 +33,14 @@ safe T i p =
       is = rw (start-is T B, toZ-pos w64 i small, read-is _ fits);
     }
 
-cast-result : tie.Need-cast-result
-cast-result c = safe (c .args .table) (c .args .place) (c .pre) .cast
+cast-t3 : tie.Need-cast-t3
+cast-t3 c = safe (c .args .table) (c .args .place) (c .pre) .cast
 
-add-result : tie.Need-add-result
-add-result c = let s = c .before .before in safe (s .args .table) (s .args .place) (s .pre) .tick
+add-t4 : tie.Need-add-t4
+add-t4 c = let s = c .before .before in safe (s .args .table) (s .args .place) (s .pre) .tick
 
 returns : tie.Need-returns
 returns c = let s = c .before .before in safe (s .args .table) (s .args .place) (s .pre) .is
 
 pub tick-at-spec : {M : Type 1} → statement M
-tick-at-spec = tie.close (tie.spec cast-result add-result returns)
+tick-at-spec = tie.close (tie.spec cast-t3 add-t4 returns)

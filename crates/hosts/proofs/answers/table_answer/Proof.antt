@@ -12,7 +12,12 @@ enum-known-judged-2 : tie.Need-enum-known-judged-2
 enum-known-judged-2 c = search needs
 
 returns : tie.Need-returns
-returns c = rw (c .before .before .before .before .judged .given .1, toZ-ofZ w64 _ (record { sfits = c .before .struct-told .given .0 .1 }), toZ-ofZ w64 _ (record { sfits = c .struct-told2 .given .1 .0 .1 }))
+returns c =
+    rw (
+      c .before .before .before .before .judged .given .1,
+      toZ-ofZ w64 _ (record { sfits = c .before .struct-told .given .0 .1 }),
+      toZ-ofZ w64 _ (record { sfits = c .struct-told2 .given .1 .0 .1 }),
+    )
 
 returns-2 : tie.Need-returns-2
 returns-2 c = rw (c .before .judged2 .given .1)

@@ -1,6 +1,6 @@
 -- `hosts::conversions::batch_answer` meets its contract. Assumes nothing.
 use borrow.Author.Needs.{needs}
-use Rattle.desk.specs.Batch.{numberOf, placeOf, indexOf, stepsOf}
+use Rattle.entries.specs.Batched.{batchedNumber, batchedPlace, batchedIndex, batchedSteps}
 use Rattle.hosts.proofs.conversions.batch_answer.Statement.{statement}
 use Rattle.hosts.proofs.conversions.batch_answer.Tie as tie
 
@@ -11,11 +11,11 @@ enum-known-batched-2 : tie.Need-enum-known-batched-2
 enum-known-batched-2 c = search needs
 
 returns : tie.Need-returns
-unfolding numberOf placeOf indexOf stepsOf
+unfolding batchedNumber batchedPlace batchedIndex batchedSteps
 returns c = rw (c .before .batched .given .1)
 
 returns-2 : tie.Need-returns-2
-unfolding numberOf placeOf indexOf stepsOf
+unfolding batchedNumber batchedPlace batchedIndex batchedSteps
 returns-2 c = rw (c .before .batched2 .given .1)
 
 pub batch-answer-spec : {M : Type 1} → statement M

@@ -16,8 +16,10 @@ same-length c = search needs
 
 returns : tie.Need-returns
 returns c =
-    let b = c .before .before .batch .ensures in
-    record { answer = c .batch-answer .ensures ∙ ap batchAnswer (b .answer); list = b .list }
+    record {
+      answer = c .batch-answer .ensures ∙ ap batchAnswer (c .before .before .batch .ensures .answer);
+      list = c .before .before .batch .ensures .list;
+    }
 
 pub colliedash-batch-spec : {M : Type 1} → statement M
 colliedash-batch-spec =

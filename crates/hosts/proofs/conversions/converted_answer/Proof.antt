@@ -2,7 +2,7 @@
 use borrow.Author.Needs.{needs}
 use mir.Syntax.{w64}
 use mir.ValLaws.{toZ-ofZ}
-use Rattle.scales.specs.Answers.{numberOf, placeOf, tickOf, stepsOf}
+use Rattle.scales.specs.Answers.{answerNumber, answerPlace, answerTick, answerSteps}
 use Rattle.hosts.proofs.conversions.converted_answer.Statement.{statement}
 use Rattle.hosts.proofs.conversions.converted_answer.Tie as tie
 
@@ -16,11 +16,11 @@ refused-by-requires : tie.Need-refused-by-requires
 refused-by-requires c κs = search needs
 
 returns : tie.Need-returns
-unfolding numberOf placeOf tickOf stepsOf
+unfolding answerNumber answerPlace answerTick answerSteps
 returns c = rw (c .before .before .answer .given .1, toZ-ofZ w64 _ (record { sfits = c .struct-told .given .1 .0 .1 }))
 
 returns-2 : tie.Need-returns-2
-unfolding numberOf placeOf tickOf stepsOf
+unfolding answerNumber answerPlace answerTick answerSteps
 returns-2 c = rw (c .before .before .answer2 .given .1) (c .refused-by .ensures)
 
 pub converted-answer-spec : {M : Type 1} → statement M

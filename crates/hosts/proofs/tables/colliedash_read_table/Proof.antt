@@ -15,7 +15,10 @@ same-length : tie.Need-same-length
 same-length c = search needs
 
 returns : tie.Need-returns
-returns c = record { answer = c .table-answer .ensures ∙ ap tableAnswer (c .before .before .read .ensures .answer); list = c .before .before .read .ensures .list }
+returns c = record {
+  answer = c .table-answer .ensures ∙ ap tableAnswer (c .before .before .read .ensures .answer);
+  list = c .before .before .read .ensures .list;
+}
 
 pub colliedash-read-table-spec : {M : Type 1} → statement M
 colliedash-read-table-spec =

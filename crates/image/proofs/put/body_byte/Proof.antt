@@ -1,10 +1,10 @@
 -- `image::put::body_byte` meets its contract. Assumes nothing.
-use Rattle.image.proofs.Slots.{free-zero, free-more}
-use Rattle.image.specs.Form.{isFree, isNumber, isCoefficient}
+use Rattle.form.proofs.FreeBytes.{free-zero, free-more}
+use Rattle.form.specs.Form.{isFree, isNumber, isCoefficient}
 use Rattle.image.specs.Image.{bodyByte}
 use borrow.Author.Needs.{needs}
 use borrow.Author.Tests.{eq-eqb, ne-eqb}
-use mathlib.Core.Bool.{true, false}
+use mathlib.Core.Bool.{Bool, true, false}
 use mathlib.Core.Path.{_≡_, sym, _∙_}
 use native.Mathlib.Omega.{arith}
 use Rattle.image.proofs.put.body_byte.Statement.{statement}
@@ -15,13 +15,24 @@ number c =
     let s = c .before .before .before .before .before .args in
     sym (free-zero (s .table .count) (s .table .degree) _ _ (c .if2 .taken)) ∙ sym (c .before .before .is-free .ensures) ∙ c .before .if1 .taken
 
-coefficient : (c : tie.Else2) → isCoefficient (c .before .before .before .before .before .args .table .count) (c .before .before .before .before .before .args .table .degree) (c .before .before .before .before .before .args .k) (c .before .before .before .before .before .args .j) ≡ true
+-- whether the byte asked for is free
+abbrev freeAt : tie.After-is-free → Bool
+freeAt c =
+    let s = c .before .before .before .args in
+    isFree (s .table .count) (s .table .degree) (s .k) (s .j)
+
+abbrev coefficientAt : tie.Else2 → Bool
+coefficientAt c =
+    let s = c .before .before .before .before .before .args in
+    isCoefficient (s .table .count) (s .table .degree) (s .k) (s .j)
+
+coefficient : (c : tie.Else2) → coefficientAt c ≡ true
 coefficient c = sym (free-more _ _ _ _ (c .if2 .left)) ∙ sym (c .before .before .is-free .ensures) ∙ c .before .if1 .taken
 
-free : (c : tie.Then1) → isFree (c .before .before .before .before .args .table .count) (c .before .before .before .before .args .table .degree) (c .before .before .before .before .args .k) (c .before .before .before .before .args .j) ≡ true
+free : (c : tie.Then1) → freeAt (c .before) ≡ true
 free c = sym (c .before .is-free .ensures) ∙ c .if1 .taken
 
-fixed : (c : tie.Else1) → isFree (c .before .before .before .before .args .table .count) (c .before .before .before .before .args .table .degree) (c .before .before .before .before .args .k) (c .before .before .before .before .args .j) ≡ false
+fixed : (c : tie.Else1) → freeAt (c .before) ≡ false
 fixed c = sym (c .before .is-free .ensures) ∙ c .if1 .left
 
 cast-count : tie.Need-cast-count
@@ -34,7 +45,7 @@ is-free-requires : tie.Need-is-free-requires
 is-free-requires c κs = search needs
 
 number-byte-requires : tie.Need-number-byte-requires
-number-byte-requires c κs = (number c, c .before .before .before .before .before .pre .0 .degree)
+number-byte-requires c κs = (number c, c .before .before .before .before .before .pre .0 .bounds .few .degree)
 
 returns : tie.Need-returns
 unfolding bodyByte
@@ -43,7 +54,12 @@ returns c = rw (free (c .before .before), eq-eqb _ _ (c .before .if2 .taken)) (c
 coefficient-byte-requires : tie.Need-coefficient-byte-requires
 coefficient-byte-requires c κs =
     let r = c .before .before .before .before .before .pre in
-    record { within = record { granules = r .0 .granules; degree = r .0 .degree; full = omega arith; place = r .2 }; coefficients = r .0 .coefficients; coefficient = coefficient c; other = omega arith }
+    record {
+      within = record { bounds = r .0 .bounds .few; full = omega arith; place = r .2 };
+      coefficients = r .0 .whole;
+      coefficient = coefficient c;
+      other = omega arith;
+    }
 
 returns-2 : tie.Need-returns-2
 unfolding bodyByte

@@ -1,9 +1,11 @@
--- `image::put::coefficient_byte` meets its contract: the coefficient is in the list. Assumes nothing.
+-- `image::put::coefficient_byte` meets its contract: the coefficient is in the list. Assumes
+-- nothing.
 use Prim.Native.Nat.{_+_, _*_, _-_, _%_, _≤_, _<_}
-use Rattle.image.proofs.Slots.{Slot, slot-told, index, room}
-use Rattle.image.specs.Form.{granuleAt, whichAt}
+use Rattle.form.proofs.FreeBytes.{Slot, slot-told}
+use Rattle.image.proofs.Slots.{index, mostCoefficients, room}
+use Rattle.form.specs.Form.{granuleAt, whichAt}
 use Rattle.image.specs.Image.{coefficientByte}
-use Rattle.image.specs.Words.{byteOf}
+use Rattle.words.specs.Words.{byteOf}
 use borrow.Author.Needs.{needs}
 use lib.IntN.{pos}
 use lib.ListN.{getD}
@@ -18,11 +20,13 @@ use Rattle.image.proofs.put.coefficient_byte.Tie as tie
 slot : (c : tie.Start) → Slot (c .args .count) (c .args .degree) (c .args .k) (c .args .j)
 slot c = slot-told _ _ _ _ (c .pre .coefficient)
 
-at : (c : tie.Start) → granuleAt (c .args .k) (c .args .j) * (c .args .degree + 1) + whichAt (c .args .j) < c .args .count * (c .args .degree + 1)
+at : (c : tie.Start)
+    → granuleAt (c .args .k) (c .args .j) * (c .args .degree + 1) + whichAt (c .args .j)
+    < c .args .count * (c .args .degree + 1)
 at c = index _ _ _ _ (slot c .granule) (slot c .which)
 
-all : (c : tie.Start) → c .args .count * (c .args .degree + 1) ≤ 5760
-all c = room (c .args .count) (c .args .degree) (c .pre .within .granules) (c .pre .within .degree)
+all : (c : tie.Start) → c .args .count * (c .args .degree + 1) ≤ mostCoefficients
+all c = room (c .args .count) (c .args .degree) (c .pre .within .bounds)
 
 sub-granule : tie.Need-sub-granule
 sub-granule c = search needs

@@ -1,8 +1,8 @@
 -- `image::put::number_byte` meets its contract. Assumes nothing.
 use Prim.Native.Nat.{_-_, _≤_, _<_}
-use Rattle.image.proofs.Slots.{number-told}
+use Rattle.form.proofs.FreeBytes.{number-told}
 use Rattle.image.specs.Image.{numberByte}
-use Rattle.image.specs.Words.{byteOf}
+use Rattle.words.specs.Words.{byteOf}
 use borrow.Author.Needs.{needs}
 use borrow.Author.Tests.{lt-ltb, le-ltb, eq-eqb, ne-eqb}
 use mathlib.Core.Path.{_∙_, ap}
@@ -38,7 +38,9 @@ returns-2 c =
     let b = c .before in
     let t = b .before .before .before in
     let s = t .before .before .args in
-    simp (ne-eqb _ _ (t .before .if1 .left), lt-ltb _ _ (t .if2 .taken)) (c .byte-of .ensures ∙ ap (λ x. byteOf x (s .j - 8)) (b .bits-of .ensures ∙ ap (ofZ w64) (toZ-ofZ w64 (s .table .start .0) (record { sfits = b .before .struct-told .given .0 .1 }))))
+    let start-back = toZ-ofZ w64 (s .table .start .0) (record { sfits = b .before .struct-told .given .0 .1 }) in
+    simp (ne-eqb _ _ (t .before .if1 .left), lt-ltb _ _ (t .if2 .taken))
+    (c .byte-of .ensures ∙ ap (λ x. byteOf x (s .j - 8)) (b .bits-of .ensures ∙ ap (ofZ w64) start-back))
 
 bits-of-requires-2 : tie.Need-bits-of-requires-2
 bits-of-requires-2 c κs = search needs
@@ -52,7 +54,9 @@ returns-3 c =
     let b = c .before in
     let t = b .before .before in
     let s = t .before .before .before .args in
-    simp (ne-eqb _ _ (t .before .before .if1 .left), le-ltb _ _ (t .before .if2 .left), lt-ltb _ _ (t .if3 .taken)) (c .byte-of2 .ensures ∙ ap (λ x. byteOf x (s .j - 16)) (b .bits-of2 .ensures ∙ ap (ofZ w64) (toZ-ofZ w64 (s .table .length) (record { sfits = b .before .struct-told2 .given .1 .0 .1 }))))
+    let length-back = toZ-ofZ w64 (s .table .length) (record { sfits = b .before .struct-told2 .given .1 .0 .1 }) in
+    simp (ne-eqb _ _ (t .before .before .if1 .left), le-ltb _ _ (t .before .if2 .left), lt-ltb _ _ (t .if3 .taken))
+    (c .byte-of2 .ensures ∙ ap (λ x. byteOf x (s .j - 16)) (b .bits-of2 .ensures ∙ ap (ofZ w64) length-back))
 
 cast-byte-of : tie.Need-cast-byte-of
 cast-byte-of c = search needs

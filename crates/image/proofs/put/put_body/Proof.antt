@@ -1,7 +1,8 @@
--- `image::put::put_body` meets its contract. Each byte put so far is the definition's, and those before the block are as they were. Assumes nothing.
+-- `image::put::put_body` meets its contract. Each byte put so far is the definition's, and those
+-- before the block are as they were. Assumes nothing.
 use Prim.Native.Nat.{_*_, _-_, _≤_, zero-le}
 use Rattle.image.proofs.Stores.{put-none, put-more}
-use Rattle.image.specs.Asked.{Put}
+use Rattle.image.specs.Asked.{Stores}
 use Rattle.image.specs.Image.{bodyByte}
 use borrow.Author.Needs.{needs}
 use mathlib.Core.Path.{_≡_}
@@ -10,7 +11,7 @@ use Rattle.image.proofs.put.put_body.Statement.{statement}
 use Rattle.image.proofs.put.put_body.Tie as tie
 
 abbrev Inv-loop : tie.InvT-loop
-Inv-loop image₀ table coefficients k j₀ image j = (j ≤ 508) × Put (bodyByte table coefficients k) (k * 512) j image₀ image
+Inv-loop image₀ table coefficients k j₀ image j = (j ≤ 508) × Stores (bodyByte table coefficients k) (k * 512) j image₀ image
 
 abbrev μ-loop : tie.MeasureT-loop
 μ-loop image₀ table coefficients k j₀ image j = 508 - j

@@ -1,8 +1,10 @@
--- `image::put::put_image` meets its contract. Each byte below the next block is the image's. Assumes nothing.
+-- `image::put::put_image` meets its contract. Each byte below the next block is the image's.
+-- Assumes nothing.
 use Prim.Native.Nat.{ℕ, _*_, _-_, _≤_, _<_, zero-le}
 use Rattle.numbers.proofs.Places.{is-upTo}
 use Rattle.image.proofs.Stores.{image-more}
-use Rattle.image.specs.Image.{blocksOf, imageByte, imageOf}
+use Rattle.form.specs.Form.{blocksOf}
+use Rattle.image.specs.Image.{imageByte, imageOf}
 use borrow.Author.Needs.{needs}
 use lib.ListN.{length, getD}
 use mathlib.Core.Path.{_≡_, refl, _∙_}
@@ -12,7 +14,9 @@ use Rattle.image.proofs.put.put_image.Statement.{statement}
 use Rattle.image.proofs.put.put_image.Tie as tie
 
 abbrev Inv-loop : tie.InvT-loop
-Inv-loop image₀ table coefficients count blocks k₀ image k = (k ≤ blocks) × (blocks ≡ blocksOf (table .count)) × (length image ≡ length image₀) × ((i : ℕ) → i < k * 512 → getD image i 0 ≡ imageByte table coefficients i)
+Inv-loop image₀ table coefficients count blocks k₀ image k =
+    (k ≤ blocks) × (blocks ≡ blocksOf (table .count)) × (length image ≡ length image₀)
+    × ((i : ℕ) → i < k * 512 → getD image i 0 ≡ imageByte table coefficients i)
 
 abbrev μ-loop : tie.MeasureT-loop
 μ-loop image₀ table coefficients count blocks k₀ image k = blocks - k
@@ -33,7 +37,7 @@ put-block-requires : tie.Need-put-block-requires Inv-loop μ-loop
 put-block-requires c κs =
     let s = c .before .before .before .before .before in
     let l = c .before .before .loop in
-    (record { ready = s .pre .ready; long = l .inv .2 ∙ s .pre .long }, omega arith)
+    (record { table = s .pre .table; long = l .inv .2 ∙ s .pre .long }, omega arith)
 
 add-k : tie.Need-add-k Inv-loop μ-loop
 add-k c = search needs

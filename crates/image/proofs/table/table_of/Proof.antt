@@ -10,7 +10,11 @@ use mir.ValLaws.{toZ-ofZ}
 use Rattle.image.proofs.table.table_of.Statement.{statement}
 use Rattle.image.proofs.table.table_of.Tie as tie
 
-same-table : {s s' h h' : ℤ} {g g' n n' : ℕ} → s ≡ s' → h ≡ h' → g ≡ g' → n ≡ n' → _≡_ {A = Table} (record { start = record { 0 = s }; length = h; count = g; degree = n }) (record { start = record { 0 = s' }; length = h'; count = g'; degree = n' })
+abbrev tableWith : ℤ → ℤ → ℕ → ℕ → Table
+tableWith s h g n = record { start = record { 0 = s }; length = h; count = g; degree = n }
+
+same-table : {s s' h h' : ℤ} {g g' n n' : ℕ} → s ≡ s' → h ≡ h' → g ≡ g' → n ≡ n'
+    → tableWith s h g n ≡ tableWith s' h' g' n'
 same-table p q r t = rw (p, q, r, t)
 
 number-at-requires : tie.Need-number-at-requires
@@ -34,7 +38,8 @@ returns c =
     let q = c .before .before in
     let h = q .before in
     let s = h .before in
-    same-table (toZ-ofZ w64 _ (record { sfits = s .number-at .ok }) ∙ s .number-at .ensures) (toZ-ofZ w64 _ (record { sfits = h .number-at2 .ok }) ∙ h .number-at2 .ensures) (q .quad-at .ensures) (c .degree-of .ensures)
+    same-table (toZ-ofZ w64 _ (record { sfits = s .number-at .ok }) ∙ s .number-at .ensures)
+    (toZ-ofZ w64 _ (record { sfits = h .number-at2 .ok }) ∙ h .number-at2 .ensures) (q .quad-at .ensures) (c .degree-of .ensures)
 
 pub table-of-spec : {M : Type 1} → statement M
 table-of-spec =

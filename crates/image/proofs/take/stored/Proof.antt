@@ -1,9 +1,10 @@
--- `image::take::stored` meets its contract. Each coefficient taken so far is the one stored there. Assumes nothing.
+-- `image::take::stored` meets its contract. Each coefficient taken so far is the one stored there.
+-- Assumes nothing.
 use Prim.Native.Nat.{ℕ, _+_, _-_, _≤_, _<_, zero-le}
 use Rattle.numbers.proofs.Places.{is-upTo}
 use Rattle.image.proofs.Slots.{stored-fits}
 use Rattle.image.proofs.Stores.{not-same}
-use Rattle.image.specs.Image.{placeOf, coefficientAt, storedOf}
+use Rattle.image.specs.Image.{storedAt, coefficientAt, storedOf}
 use borrow.Author.Count.{below-none, below-more}
 use lib.IntN.{pos}
 use lib.ListN.{length, getD, set, length-set}
@@ -17,13 +18,15 @@ use Rattle.image.proofs.take.stored.Tie as tie
 
 abbrev Inv-loop : tie.InvT-loop
 Inv-loop bytes granule coefficients₀ m₀ coefficients m =
-    (m ≤ 16) × (length coefficients ≡ 16) × ((j : ℕ) → j < m → getD coefficients j (pos 0) ≡ coefficientAt bytes granule j)
+    (m ≤ 16) × (length coefficients ≡ 16)
+    × ((j : ℕ) → j < m → getD coefficients j (pos 0) ≡ coefficientAt bytes granule j)
 
 abbrev μ-loop : tie.MeasureT-loop
 μ-loop bytes granule coefficients₀ m₀ coefficients m = 16 - m
 
 here : (c : tie.In-loop Inv-loop μ-loop)
-    → placeOf (c .before .before .before .args .granule) (c .before .loop .m) + 8 ≤ length (c .before .before .before .args .bytes .now)
+    → storedAt (c .before .before .before .args .granule) (c .before .loop .m) + 8
+    ≤ length (c .before .before .before .args .bytes .now)
 here c =
     let s = c .before .before .before in
     stored-fits (s .args .granule) (c .before .loop .m) _ (omega arith) (s .pre .long)

@@ -1,9 +1,11 @@
--- `image::take::take_coefficients` meets its contract. Each coefficient taken so far is the one stored for its granule. Assumes nothing.
+-- `image::take::take_coefficients` meets its contract. Each coefficient taken so far is the one
+-- stored for its granule. Assumes nothing.
 use Prim.Native.Nat.{ℕ, _+_, _*_, _-_, _/_, _%_, _≤_, _<_, zero-le}
 use Rattle.numbers.proofs.Places.{is-upTo}
 use Rattle.image.proofs.Slots.{place-fits}
 use Rattle.image.proofs.Stores.{not-same}
-use Rattle.image.specs.Image.{blocksOf, placeOf, coefficientAt, coefficientsOf}
+use Rattle.form.specs.Form.{blocksOf}
+use Rattle.image.specs.Image.{storedAt, coefficientAt, coefficientsStored}
 use borrow.Author.Count.{below-none, below-more}
 use borrow.Author.Needs.{needs}
 use lib.IntN.{pos}
@@ -17,17 +19,24 @@ use Rattle.image.proofs.take.take_coefficients.Statement.{statement}
 use Rattle.image.proofs.take.take_coefficients.Tie as tie
 
 abbrev Inv-loop : tie.InvT-loop
-Inv-loop bytes count degree coefficients₀ i₀ coefficients i = (i ≤ length coefficients) × (length coefficients ≡ length coefficients₀) × ((j : ℕ) → j < i → getD coefficients j (pos 0) ≡ coefficientAt bytes (j / (degree + 1)) (j % (degree + 1)))
+Inv-loop bytes count degree coefficients₀ i₀ coefficients i =
+    (i ≤ length coefficients) × (length coefficients ≡ length coefficients₀)
+    × ((j : ℕ) → j < i → getD coefficients j (pos 0) ≡ coefficientAt bytes (j / (degree + 1)) (j % (degree + 1)))
 
 abbrev μ-loop : tie.MeasureT-loop
 μ-loop bytes count degree coefficients₀ i₀ coefficients i = length coefficients₀ - i
 
-room : (c : tie.In-loop Inv-loop μ-loop)
-    → placeOf (c .before .loop .i / (c .before .before .before .args .degree + 1)) (c .before .loop .i % (c .before .before .before .args .degree + 1)) + 8
-    ≤ blocksOf (c .before .before .before .args .count) * 512
+abbrev start : tie.In-loop Inv-loop μ-loop → tie.Start Inv-loop μ-loop
+start c = c .before .before .before
+
+-- where the next coefficient stands
+abbrev place : tie.In-loop Inv-loop μ-loop → ℕ
+place c = storedAt (c .before .loop .i / (start c .args .degree + 1)) (c .before .loop .i % (start c .args .degree + 1))
+
+room : (c : tie.In-loop Inv-loop μ-loop) → place c + 8 ≤ blocksOf (start c .args .count) * 512
 room c =
     let s = c .before .before .before in
-    place-fits (s .args .count) (s .args .degree) (c .before .loop .i) (s .pre .degree) (omega arith)
+    place-fits (s .args .count) (s .args .degree) (c .before .loop .i) (s .pre .bounds .degree) (omega arith)
 
 loop-holds : tie.Need-loop-holds Inv-loop μ-loop
 loop-holds c = (zero-le, refl, below-none _)
@@ -97,7 +106,7 @@ same-length : tie.Need-same-length Inv-loop μ-loop
 same-length c = c .before .loop .inv .1
 
 returns : tie.Need-returns Inv-loop μ-loop
-unfolding coefficientsOf
+unfolding coefficientsStored
 returns c =
     let l = c .before .loop in
     let s = c .before .before .before in

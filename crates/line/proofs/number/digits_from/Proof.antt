@@ -1,5 +1,6 @@
--- `line::number::digits_from` meets its contract. What is left of the run from the present place on, with the value so far, is the whole run; the measure is
--- what is left of the text. Assumes nothing.
+-- `line::number::digits_from` meets its contract. What is left of the run from the present place
+-- on, with the value so far, is the whole run; the measure is what is left of the text. Assumes
+-- nothing.
 use borrow.Author.Needs.{needs}
 use mathlib.Core.Path.{_≡_, sym, _∙_, ap}
 use mathlib.Core.Bool.{false}
@@ -11,12 +12,13 @@ use lib.ListN.{length, drop, getD, drop-of-length-le}
 use lib.Seq.{drop-cons}
 use Rattle.line.specs.Numbers.{isDigit}
 use Rattle.line.specs.Scan.{capped, runFrom}
-use Rattle.line.proofs.Runs.{capped-zero, capped-twice, is-digit, below-digits, above-digits, onward, onward-start, onward-end, onward-stop, onward-digit}
+use Rattle.line.proofs.Runs.{capped-zero, capped-twice, is-digit, below-digits, above-digits}
+use Rattle.line.proofs.Runs.{runOnward, onward-start, onward-end, onward-stop, onward-digit}
 use Rattle.line.proofs.number.digits_from.Statement.{statement}
 use Rattle.line.proofs.number.digits_from.Tie as tie
 
 abbrev Inv-loop : tie.InvT-loop
-Inv-loop text at value₀ end₀ value end = (end ≤ length text) × (capped value ≡ value) × (onward value end (drop end text) ≡ runFrom (drop at text) at)
+Inv-loop text at value₀ end₀ value end = (end ≤ length text) × (capped value ≡ value) × (runOnward value end (drop end text) ≡ runFrom (drop at text) at)
 
 abbrev μ-loop : tie.MeasureT-loop
 μ-loop text at value₀ end₀ value end = length text - end
@@ -26,12 +28,14 @@ module _ (text : List ℕ) (value end : ℕ) (h : end < length text) where
   here : drop end text ≡ getD text end 0 ∷ drop (end + 1) text
   here = drop-cons text end 0 h ∙ ap (λ (n : ℕ). getD text end 0 ∷ drop n text) (sym (add-one end))
 
-  stopped : capped value ≡ value → isDigit (getD text end 0) ≡ false → onward value end (drop end text) ≡ record { value = value; end = end }
-  stopped c d = ap (onward value end) here ∙ onward-stop value end _ _ d c
+  stopped : capped value ≡ value → isDigit (getD text end 0) ≡ false
+      → runOnward value end (drop end text) ≡ record { value = value; end = end }
+  stopped c d = ap (runOnward value end) here ∙ onward-stop value end _ _ d c
 
   digit : 48 ≤ getD text end 0 → getD text end 0 ≤ 57
-      → onward value end (drop end text) ≡ onward (capped (10 * value + (getD text end 0 - 48))) (end + 1) (drop (end + 1) text)
-  digit l g = ap (onward value end) here ∙ onward-digit value end _ _ (is-digit _ l g)
+      → runOnward value end (drop end text)
+      ≡ runOnward (capped (10 * value + (getD text end 0 - 48))) (end + 1) (drop (end + 1) text)
+  digit l g = ap (runOnward value end) here ∙ onward-digit value end _ _ (is-digit _ l g)
 
 loop-holds : tie.Need-loop-holds Inv-loop μ-loop
 loop-holds c = (c .before .pre, capped-zero, onward-start _ _)
@@ -51,7 +55,10 @@ returns c =
 returns-2 : tie.Need-returns-2 Inv-loop μ-loop
 returns-2 c =
     let o = c .before .before .before .before .before in
-    sym (stopped _ _ _ (c .before .before .before .before .loop-test .taken) (o .loop .inv .1) (above-digits _ (omega (arith, c .before .before .wide .ensures .0)))) ∙ o .loop .inv .2
+    sym
+    (stopped _ _ _ (c .before .before .before .before .loop-test .taken) (o .loop .inv .1)
+    (above-digits _ (omega (arith, c .before .before .wide .ensures .0))))
+    ∙ o .loop .inv .2
 
 grown-requires : tie.Need-grown-requires Inv-loop μ-loop
 grown-requires c κs = search needs
@@ -66,13 +73,16 @@ loop-again : tie.Need-loop-again Inv-loop μ-loop
 loop-again c =
     let o = c .before .before .before .before .before .before in
     let g = c .grown .ensures in
-    let w = c .before .before .before .wide .ensures .0 in
-    (search needs, rw (g) (capped-twice _), rw (g, w) (sym (digit _ _ _ (c .before .before .before .before .before .loop-test .taken) (omega arith) (omega arith)) ∙ o .loop .inv .2))
+    let w = c .before .before .before .wide .ensures .0 in (
+      search needs,
+      rw (g) (capped-twice _),
+      rw (g, w) (sym (digit _ _ _ (c .before .before .before .before .before .loop-test .taken) (omega arith) (omega arith)) ∙ o .loop .inv .2),
+    )
 
 returns-3 : tie.Need-returns-3 Inv-loop μ-loop
 returns-3 c =
     let o = c .before in
-    sym (ap (onward (o .loop .value) (o .loop .end)) (drop-of-length-le _ (c .loop-test .left)) ∙ onward-end _ _ (o .loop .inv .1)) ∙ o .loop .inv .2
+    sym (ap (runOnward (o .loop .value) (o .loop .end)) (drop-of-length-le _ (c .loop-test .left)) ∙ onward-end _ _ (o .loop .inv .1)) ∙ o .loop .inv .2
 
 pub digits-from-spec : {M : Type 1} → statement M
 digits-from-spec =

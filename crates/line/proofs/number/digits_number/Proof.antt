@@ -1,4 +1,5 @@
--- `line::number::digits_number` meets its contract: the field is the run of digits, or it holds another byte. Assumes nothing.
+-- `line::number::digits_number` meets its contract: the field is the run of digits, or it holds
+-- another byte. Assumes nothing.
 use borrow.Author.Needs.{needs}
 use mathlib.Core.Path.{_≡_, sym, _∙_, ap}
 use mathlib.Core.Bool.{Bool, false}
@@ -9,7 +10,8 @@ use Prim.Native.Nat.{ℕ, _+_, _-_, _≤_, _<_}
 use native.Mathlib.Omega.{arith}
 use lib.ListN.{length, drop, getD, length-drop}
 use lib.Seq.{getD-drop}
-use Rattle.line.specs.Numbers.{allDigits, valueOf, signed, fitting, digitsNumber}
+use Rattle.numbers.specs.Signs.{signed}
+use Rattle.line.specs.Numbers.{allDigits, valueOf, fitting, digitsNumber}
 use Rattle.line.specs.Scan.{digitsOf, field, capped, runFrom, foundAt, digitsAt}
 use Rattle.line.specs.declared.number.Run.{Run}
 use Rattle.line.specs.declared.number.Scanned.the-variants.{Wrong}
@@ -95,7 +97,8 @@ returns-4 c =
     let a = o .before .before .args in
     let is = o .digits-from .ensures in
     c .with-sign .ensures ∙ right (a .negative) (a .text .now) (a .at) _ is (j .before .before .if1 .left) (j .before .if2 .left)
-    (⊎-elim (λ w. at-space (a .negative) (a .text .now) (a .at) _ is (w .0 .taken) (w .2 .left)) (λ w. at-end (a .negative) (a .text .now) (a .at) _ is (w .left)) (j .if3 .came))
+    (⊎-elim (λ w. at-space (a .negative) (a .text .now) (a .at) _ is (w .0 .taken) (w .2 .left))
+    (λ w. at-end (a .negative) (a .text .now) (a .at) _ is (w .left)) (j .if3 .came))
 
 pub digits-number-spec : {M : Type 1} → statement M
 digits-number-spec =

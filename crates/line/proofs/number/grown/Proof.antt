@@ -1,4 +1,5 @@
--- `line::number::grown` meets its contract: above a tenth of 2^63 one digit more leads above 2^63. Assumes nothing.
+-- `line::number::grown` meets its contract: above a tenth of 2^63 one digit more leads above 2^63.
+-- Assumes nothing.
 use borrow.Author.Needs.{needs}
 use Rattle.line.proofs.Runs.{grown-far, grown-near}
 use Rattle.line.proofs.number.grown.Statement.{statement}

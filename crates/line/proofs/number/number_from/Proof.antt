@@ -1,4 +1,5 @@
--- `line::number::number_from` meets its contract: a minus is the first byte of its field, and the digits after it are the rest. Assumes nothing.
+-- `line::number::number_from` meets its contract: a minus is the first byte of its field, and the
+-- digits after it are the rest. Assumes nothing.
 use borrow.Author.Needs.{needs}
 use mathlib.Core.Path.{_≡_, refl, sym, _∙_, ap}
 use mathlib.Core.Bool.{true, false}
@@ -11,8 +12,8 @@ use lib.IntN.{ℤ}
 use lib.ListN.{length, drop, length-drop}
 use lib.Seq.{drop-drop}
 use borrow.Author.Tests.{eqb-true}
-use Rattle.line.specs.Numbers.{digitsNumber, numberOf}
-use Rattle.line.specs.Scan.{field, foundAt, digitsAt, numberAt, startsWithMinus, minusAt}
+use Rattle.line.specs.Numbers.{digitsNumber, numberIn}
+use Rattle.line.specs.Scan.{field, foundAt, digitsAt, numberScanned, startsWithMinus, minusAt}
 use Rattle.line.proofs.Cases.{either}
 use Rattle.line.proofs.number.number_from.Statement.{statement}
 use Rattle.line.proofs.number.number_from.Tie as tie
@@ -22,8 +23,8 @@ minus-then : (text : List ℕ) → startsWithMinus text ≡ true → text ≡ 45
 minus-then [] e = let n : _≡_ {A = ℕ} 0 1 = cc in let f : ⊥ = omega arith in absurd f
 minus-then (byte ∷ more) e = ap (λ (b : ℕ). b ∷ more) (eqb-true byte 45 e)
 
-no-minus : (text : List ℕ) → startsWithMinus text ≡ false → digitsNumber false (field text) ≡ numberOf (field text)
-unfolding field numberOf digitsNumber
+no-minus : (text : List ℕ) → startsWithMinus text ≡ false → digitsNumber false (field text) ≡ numberIn (field text)
+unfolding field numberIn digitsNumber
 no-minus [] e = refl
 no-minus (byte ∷ more) e = either (eqb byte 32) (λ (s : eqb byte 32 ≡ true). rw s) (λ (s : eqb byte 32 ≡ false). rw (s, e))
 
@@ -34,14 +35,14 @@ module _ (text : List ℕ) (at : ℕ) where
   room : minusAt text at ≡ true → at + 1 ≤ length text
   room e = let l = ap length (rest e) in let d = length-drop at text in omega arith
 
-  negative : minusAt text at ≡ true → digitsAt true text (at + 1) ≡ numberAt text at
-  unfolding digitsAt numberAt field numberOf
+  negative : minusAt text at ≡ true → digitsAt true text (at + 1) ≡ numberScanned text at
+  unfolding digitsAt numberScanned field numberIn
   negative e =
       let s : at + 1 + length (field (drop (at + 1) text)) ≡ at + suc (length (field (drop (at + 1) text))) = omega arith in
       rw (rest e, s)
 
-  plain : minusAt text at ≡ false → digitsAt false text at ≡ numberAt text at
-  unfolding digitsAt numberAt
+  plain : minusAt text at ≡ false → digitsAt false text at ≡ numberScanned text at
+  unfolding digitsAt numberScanned
   plain e = ap (λ (o : Option ℤ). foundAt o (at + length (field (drop at text)))) (no-minus (drop at text) e)
 
 minus-at-requires : tie.Need-minus-at-requires

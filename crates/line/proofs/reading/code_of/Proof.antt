@@ -18,8 +18,10 @@ record Code (z : ℤ) : Type 0 where
   cast : T (nonNeg z) × Fits w32 (natAbs z)
   is : natAbs z ≡ codeOf z
 
-code : (z : ℤ) → pos 0 ≤ℤ z → z ≤ℤ pos 6 → Code z
-code (pos n) l h = let k = leb→le n 6 (h .le) in record { cast = (tt, record { fits = omega arith }); is = sym (code-inside n k) }
+code : (z : ℤ) → pos 0 ≤ℤ z → z ≤ℤ pos 4294967294 → Code z
+code (pos n) l h =
+    let k = leb→le n 4294967294 (h .le) in
+    record { cast = (tt, record { fits = omega arith }); is = sym (code-inside n (omega arith)) }
 code (negsuc n) l h = absurd (l .le)
 
 number-back : (c : tie.Start) → toZ w64 (ofZ w64 (c .args .number)) ≡ c .args .number

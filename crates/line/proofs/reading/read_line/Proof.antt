@@ -1,4 +1,5 @@
--- `line::reading::read_line` meets its contract: each way out is one of the cases of three fields, found one after the other. Assumes nothing.
+-- `line::reading::read_line` meets its contract: each way out is one of the cases of three fields,
+-- found one after the other. Assumes nothing.
 use mathlib.Core.Path.{_≡_, sym, _∙_, ap}
 use mathlib.Core.List.{List, _∷_}
 use mathlib.Core.Option.{Option, some}
@@ -8,8 +9,8 @@ use lib.IntN.{ℤ}
 use lib.ListN.{length}
 use mir.Syntax.{w64}
 use mir.ValLaws.{toZ-ofZ}
-use Rattle.line.specs.Lines.{three, notUnderstood, lineOf}
-use Rattle.line.specs.Scan.{numberAt}
+use Rattle.line.specs.Lines.{threeNumbers, notUnderstood, lineRead}
+use Rattle.line.specs.Scan.{numberScanned}
 use Rattle.line.specs.declared.number.Scanned.the-variants.{Number, Wrong}
 use Rattle.line.specs.declared.reading.Line.the-variants.{Numbers}
 use Rattle.line.proofs.Splitting.{numbersFrom, one-more, wrong-at, number-more, number-last, short-line, long-line}
@@ -22,46 +23,50 @@ record First (text : List ℕ) : Type 0 where
   short : length text ≤ 64
   from : ℤ
   end : ℕ
-  found : numberAt text 0 ≡ Number from end
+  found : numberScanned text 0 ≡ Number from end
 
 record Second (text : List ℕ) : Type 0 where
   one : First text
   more : one .end < length text
   to : ℤ
   end : ℕ
-  found : numberAt text (one .end + 1) ≡ Number to end
+  found : numberScanned text (one .end + 1) ≡ Number to end
 
 record Third (text : List ℕ) : Type 0 where
   two : Second text
   more : two .end < length text
   tick : ℤ
   end : ℕ
-  found : numberAt text (two .end + 1) ≡ Number tick end
+  found : numberScanned text (two .end + 1) ≡ Number tick end
 
 module _ (text : List ℕ) (line : ℕ) where
   -- the line's numbers, as far as they are known
-  line-is : length text ≤ 64 → (numbers : List (Option ℤ)) → numbersFrom text 0 ≡ numbers → lineOf text line ≡ three numbers line
-  line-is short numbers e = short-line text line short ∙ ap (λ (l : List (Option ℤ)). three l line) e
+  line-is : length text ≤ 64 → (numbers : List (Option ℤ)) → numbersFrom text 0 ≡ numbers
+      → lineRead text line ≡ threeNumbers numbers line
+  line-is short numbers e = short-line text line short ∙ ap (λ (l : List (Option ℤ)). threeNumbers l line) e
 
-  no-first : length text ≤ 64 → numberAt text 0 ≡ Wrong → lineOf text line ≡ notUnderstood line
+  no-first : length text ≤ 64 → numberScanned text 0 ≡ Wrong → lineRead text line ≡ notUnderstood line
   no-first short w = line-is short _ (wrong-at text 0 w)
 
   module _ (one : First text) where
-    one-only : length text ≤ one .end → lineOf text line ≡ notUnderstood line
+    one-only : length text ≤ one .end → lineRead text line ≡ notUnderstood line
     one-only h = line-is (one .short) _ (number-last text 0 zero-le (one .from) (one .end) (one .found) h)
 
-    after-first : one .end < length text → (rest : List (Option ℤ)) → numbersFrom text (one .end + 1) ≡ rest → numbersFrom text 0 ≡ some (one .from) ∷ rest
+    after-first : one .end < length text → (rest : List (Option ℤ)) → numbersFrom text (one .end + 1) ≡ rest
+        → numbersFrom text 0 ≡ some (one .from) ∷ rest
     after-first h rest e = number-more text 0 zero-le (one .from) (one .end) (one .found) h ∙ ap (λ (l : List (Option ℤ)). some (one .from) ∷ l) e
 
-    no-second : one .end < length text → numberAt text (one .end + 1) ≡ Wrong → lineOf text line ≡ notUnderstood line
+    no-second : one .end < length text → numberScanned text (one .end + 1) ≡ Wrong
+        → lineRead text line ≡ notUnderstood line
     no-second h w = line-is (one .short) _ (after-first h _ (wrong-at text (one .end + 1) w))
 
   module _ (two : Second text) where
     inside : two .one .end + 1 ≤ length text
     inside = omega (arith, two .more)
 
-    two-only : length text ≤ two .end → lineOf text line ≡ notUnderstood line
-    two-only h = line-is (two .one .short) _ (after-first (two .one) (two .more) _ (number-last text (two .one .end + 1) inside (two .to) (two .end) (two .found) h))
+    two-only : length text ≤ two .end → lineRead text line ≡ notUnderstood line
+    two-only h =
+        line-is (two .one .short) _ (after-first (two .one) (two .more) _ (number-last text (two .one .end + 1) inside (two .to) (two .end) (two .found) h))
 
     after-second : two .end < length text → (rest : List (Option ℤ)) → numbersFrom text (two .end + 1) ≡ rest
         → numbersFrom text 0 ≡ some (two .one .from) ∷ some (two .to) ∷ rest
@@ -69,19 +74,23 @@ module _ (text : List ℕ) (line : ℕ) where
         after-first (two .one) (two .more) _
         (number-more text (two .one .end + 1) inside (two .to) (two .end) (two .found) h ∙ ap (λ (l : List (Option ℤ)). some (two .to) ∷ l) e)
 
-    no-third : two .end < length text → numberAt text (two .end + 1) ≡ Wrong → lineOf text line ≡ notUnderstood line
+    no-third : two .end < length text → numberScanned text (two .end + 1) ≡ Wrong
+        → lineRead text line ≡ notUnderstood line
     no-third h w = line-is (two .one .short) _ (after-second h _ (wrong-at text (two .end + 1) w))
 
   module _ (all : Third text) where
     inside₂ : all .two .end + 1 ≤ length text
     inside₂ = omega (arith, all .more)
 
-    all-three : length text ≤ all .end → lineOf text line ≡ Numbers (all .two .one .from) (all .two .to) (all .tick)
-    all-three h = line-is (all .two .one .short) _ (after-second (all .two) (all .more) _ (number-last text (all .two .end + 1) inside₂ (all .tick) (all .end) (all .found) h))
+    all-three : length text ≤ all .end → lineRead text line ≡ Numbers (all .two .one .from) (all .two .to) (all .tick)
+    all-three h =
+        line-is (all .two .one .short) _
+        (after-second (all .two) (all .more) _ (number-last text (all .two .end + 1) inside₂ (all .tick) (all .end) (all .found) h))
 
-    too-many : all .end < length text → lineOf text line ≡ notUnderstood line
+    too-many : all .end < length text → lineRead text line ≡ notUnderstood line
     too-many h =
-        line-is (all .two .one .short) _ (after-second (all .two) (all .more) _ (number-more text (all .two .end + 1) inside₂ (all .tick) (all .end) (all .found) h))
+        line-is (all .two .one .short) _
+        (after-second (all .two) (all .more) _ (number-more text (all .two .end + 1) inside₂ (all .tick) (all .end) (all .found) h))
         ∙ one-more text (all .end + 1) (all .two .one .from) (all .two .to) (all .tick) line
 
 -- the same at the code's places

@@ -1,4 +1,5 @@
--- `scales::path::crosses_table` meets its contract. A path crosses exactly where its ends lie on different sides. Assumes nothing.
+-- `scales::path::crosses_table` meets its contract. A path crosses exactly where its ends lie on
+-- different sides. Assumes nothing.
 use borrow.Author.Needs.{needs}
 use mathlib.Core.Path.{_≡_, refl}
 use mathlib.Core.Bool.{not, Bool·beq}

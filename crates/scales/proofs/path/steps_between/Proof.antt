@@ -1,5 +1,6 @@
--- `scales::path::steps_between` meets its contract. The steps walked, and the path that is left from where the walk stands, make up the whole path;
--- the measure is what is left of 4. Assumes nothing.
+-- `scales::path::steps_between` meets its contract. The steps walked, and the path that is left
+-- from where the walk stands, make up the whole path; the measure is what is left of the longest
+-- path. Assumes nothing.
 use borrow.Author.Needs.{needs}
 use mathlib.Core.Path.{_≡_, refl, sym, _∙_, ap}
 use Prim.Native.Nat.{ℕ, suc, _+_, _-_, _≤_, _<_}
@@ -8,18 +9,19 @@ use lib.ListN.{length}
 use Rattle.scales.specs.declared.scale.Scale.{Scale}
 use Rattle.scales.specs.declared.path.Step.{Step}
 use Rattle.scales.specs.declared.path.Way.the-variants.{Here, By}
-use Rattle.scales.specs.Path.{next, end, walked, pathWithin, steps}
+use Rattle.scales.specs.Path.{next, stepAndRest, pathWithin, longestPath, steps}
+use Rattle.scales.specs.Rows.{end}
 use Rattle.scales.proofs.path.steps_between.Statement.{statement}
 use Rattle.scales.proofs.path.steps_between.Tie as tie
 
 -- what is left of a path, with so many steps walked
 left : ℕ → Scale → Scale → ℕ
-left n at to = length (pathWithin (4 - n) at to)
+left n at to = length (pathWithin (longestPath - n) at to)
 
-module _ (n : ℕ) (at to : Scale) (h : n < 4) where
-  opened : left n at to ≡ length (walked (λ scale. pathWithin (4 - (n + 1)) scale to) (next at to))
+module _ (n : ℕ) (at to : Scale) (h : n < longestPath) where
+  opened : left n at to ≡ length (stepAndRest (λ scale. pathWithin (longestPath - (n + 1)) scale to) (next at to))
   unfolding left
-  opened = let e : 4 - n ≡ suc (4 - (n + 1)) = omega arith in ap (λ (k : ℕ). length (pathWithin k at to)) e
+  opened = let e : longestPath - n ≡ suc (longestPath - (n + 1)) = omega arith in ap (λ (k : ℕ). length (pathWithin k at to)) e
 
   ended : next at to ≡ Here → left n at to ≡ 0
   ended e = opened ∙ rw e
@@ -28,19 +30,19 @@ module _ (n : ℕ) (at to : Scale) (h : n < 4) where
   unfolding left
   onward step e = opened ∙ rw e
 
-none-left : (n : ℕ) (at to : Scale) → 4 ≤ n → left n at to ≡ 0
+none-left : (n : ℕ) (at to : Scale) → longestPath ≤ n → left n at to ≡ 0
 unfolding left
-none-left n at to h = let e : 4 - n ≡ 0 = omega arith in ap (λ (k : ℕ). length (pathWithin k at to)) e
+none-left n at to h = let e : longestPath - n ≡ 0 = omega arith in ap (λ (k : ℕ). length (pathWithin k at to)) e
 
 all-left : (from to : Scale) → left 0 from to ≡ steps from to
 unfolding left
 all-left from to = refl
 
 abbrev Inv-loop : tie.InvT-loop
-Inv-loop to at₀ walked₀ at walked = (walked ≤ 4) × (walked + left walked at to ≡ steps at₀ to)
+Inv-loop to at₀ walked₀ at walked = (walked ≤ longestPath) × (walked + left walked at to ≡ steps at₀ to)
 
 abbrev μ-loop : tie.MeasureT-loop
-μ-loop to at₀ walked₀ at walked = 4 - walked
+μ-loop to at₀ walked₀ at walked = longestPath - walked
 
 loop-holds : tie.Need-loop-holds Inv-loop μ-loop
 loop-holds c = (search needs, omega (arith, all-left (c .args .from) (c .args .to)))
@@ -54,7 +56,9 @@ enum-told c = search needs
 returns : tie.Need-returns Inv-loop μ-loop
 returns c =
     let o = c .before .before .before .before in
-    omega (arith, o .loop .inv .1, ended (o .loop .walked) (o .loop .at) (o .before .args .to) (c .before .before .before .loop-test .taken) (sym (c .before .before .next-step .ensures) ∙ c .enum-told .given .1))
+    let here = sym (c .before .before .next-step .ensures) ∙ c .enum-told .given .1 in
+    let e = ended (o .loop .walked) (o .loop .at) (o .before .args .to) (c .before .before .before .loop-test .taken) here in
+    omega (arith, o .loop .inv .1, e)
 
 enum-known-step : tie.Need-enum-known-step Inv-loop μ-loop
 enum-known-step c = search needs
@@ -72,7 +76,9 @@ loop-again : tie.Need-loop-again Inv-loop μ-loop
 loop-again c =
     let o = c .before .before .before .before .before .before in
     let s = c .before .before in
-    (search needs, rw (c .end-of .ensures) (omega (arith, o .loop .inv .1, onward (o .loop .walked) (o .loop .at) (o .before .args .to) (s .before .before .before .loop-test .taken) _ (sym (s .before .before .next-step .ensures) ∙ s .step .given .1))))
+    let by = sym (s .before .before .next-step .ensures) ∙ s .step .given .1 in
+    let e = onward (o .loop .walked) (o .loop .at) (o .before .args .to) (s .before .before .before .loop-test .taken) _ by in
+    (search needs, rw (c .end-of .ensures) (omega (arith, o .loop .inv .1, e)))
 
 returns-2 : tie.Need-returns-2 Inv-loop μ-loop
 returns-2 c = let o = c .before in omega (arith, o .loop .inv .1, none-left (o .loop .walked) (o .loop .at) (o .before .args .to) (c .loop-test .left))

@@ -1,43 +1,24 @@
--- `scales::scale::scale_of` meets its contract: in each arm the code is a number, at which the definition computes. Assumes nothing.
-use borrow.Author.Tests.{lt-leb}
-use mathlib.Core.Path.{_≡_}
-use Prim.Native.Nat.{ℕ, suc, _≤_, _<_, zero-le}
-use native.Mathlib.Omega.{arith}
+-- `scales::scale::scale_of` meets its contract. Assumes nothing.
+use borrow.Author.Needs.{needs}
+use mathlib.Core.Path.{sym, _∙_, ap}
+use Rattle.scales.specs.declared.scale.Named.the-variants as N
 use Rattle.scales.proofs.scale.scale_of.Statement.{statement}
 use Rattle.scales.proofs.scale.scale_of.Tie as tie
 
+is-code-requires : tie.Need-is-code-requires
+is-code-requires c κs = search needs
+
+scale-named-requires : tie.Need-scale-named-requires
+scale-named-requires c κs = search needs
+
 returns : tie.Need-returns
-returns c = rw (c .match .keys1)
+returns c =
+    let i = c .before in
+    rw (sym (i .before .is-code .ensures) ∙ i .if1 .taken) (ap N.Scale (c .scale-named .ensures))
 
 returns-2 : tie.Need-returns-2
-returns-2 c = rw (c .match .keys2)
-
-returns-3 : tie.Need-returns-3
-returns-3 c = rw (c .match .keys3)
-
-returns-4 : tie.Need-returns-4
-returns-4 c = rw (c .match .keys4)
-
-returns-5 : tie.Need-returns-5
-returns-5 c = rw (c .match .keys5)
-
-returns-6 : tie.Need-returns-6
-returns-6 c = rw (c .match .keys6)
-
-returns-7 : tie.Need-returns-7
-returns-7 c = rw (c .match .keys7)
-
--- what is none of 0 to 6 is above 6
-past : (k n : ℕ) → k ≤ n → (n ≡ k → ⊥) → suc k ≤ n
-past k n h d = omega (arith, d)
-
-above : (n : ℕ) → (n ≡ 0 → ⊥) → (n ≡ 1 → ⊥) → (n ≡ 2 → ⊥) → (n ≡ 3 → ⊥) → (n ≡ 4 → ⊥) → (n ≡ 5 → ⊥) → (n ≡ 6 → ⊥) → 6 < n
-above n a b c d e f g = past 6 n (past 5 n (past 4 n (past 3 n (past 2 n (past 1 n (past 0 n zero-le a) b) c) d) e) f) g
-
-returns-8 : tie.Need-returns-8
-returns-8 c =
-    let r = c .match .rest in
-    rw (lt-leb (c .before .args .code) 6 (above (c .before .args .code) (r .0 .0 .0 .0 .0 .0 .1) (r .0 .0 .0 .0 .0 .1) (r .0 .0 .0 .0 .1) (r .0 .0 .0 .1) (r .0 .0 .1) (r .0 .1) (r .1)))
+returns-2 c = rw (sym (c .before .is-code .ensures) ∙ c .if1 .left)
 
 pub scale-of-spec : {M : Type 1} → statement M
-scale-of-spec = tie.close (tie.spec returns returns-2 returns-3 returns-4 returns-5 returns-6 returns-7 returns-8)
+scale-of-spec =
+    tie.close (tie.spec is-code-requires scale-named-requires returns returns-2)

@@ -1,6 +1,5 @@
 -- `scales::tick::valid` meets its contract. Assumes nothing.
-use mir.Syntax.{w64}
-use mir.ValLaws.{toZ-ofZ}
+use Rattle.numbers.proofs.Machine.{read-is}
 use Rattle.scales.specs.Tick.{isValid}
 use Rattle.scales.proofs.tick.valid.Statement.{statement}
 use Rattle.scales.proofs.tick.valid.Tie as tie
@@ -8,14 +7,14 @@ use Rattle.scales.proofs.tick.valid.Tie as tie
 returns : tie.Need-returns
 unfolding isValid
 returns c =
-    let e = toZ-ofZ w64 (c .before .args .tick) (c .before .fits .tick) in
+    let e = read-is (c .before .args .tick) (c .before .fits .tick) in
     let h = rw e at (c .if1 .taken) in
     rw (e, h)
 
 returns-2 : tie.Need-returns-2
 unfolding isValid
 returns-2 c =
-    let e = toZ-ofZ w64 (c .before .args .tick) (c .before .fits .tick) in
+    let e = read-is (c .before .args .tick) (c .before .fits .tick) in
     let h = rw e at (c .if1 .left) in
     rw (e, h)
 

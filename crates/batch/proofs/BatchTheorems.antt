@@ -1,0 +1,167 @@
+-- What a batch answers, said by the conversions of its entries. Assumes nothing.
+use mathlib.Core.Path.{_≡_, refl, sym, _∙_, ap, subst}
+use mathlib.Core.Bool.{true}
+use mathlib.Core.List.{List, [], _∷_}
+use Prim.Native.Nat.{ℕ, _<_}
+use native.Mathlib.Nat.{zero-add, not-suc-le-zero}
+use native.Mathlib.Omega.{arith}
+use borrow.Author.Tests.{eqb-true, eq-eqb, ne-eqb}
+use lib.Dec.{eqb}
+use lib.IntN.{ℤ, pos}
+use lib.ListN.{length, getD}
+use Rattle.numbers.proofs.Places.{map-at}
+use Rattle.scales.specs.declared.answer.Answer.{Answer}
+use Rattle.scales.specs.declared.answer.Answer.the-variants as Answer
+use Rattle.scales.specs.declared.answer.Epoch.{Epoch}
+use Rattle.scales.specs.declared.refusal.Refusal.{Refusal}
+use Rattle.scales.specs.declared.scale.Purpose.the-variants as P
+use Rattle.scales.specs.Answers.{answerTick}
+use Rattle.scales.specs.Path.{steps}
+use Rattle.scales.specs.Scales.{isCode, named}
+use Rattle.blocks.specs.Judging.{judged}
+use Rattle.dates.specs.declared.reading.Reading.the-variants.{Ticks}
+use Rattle.entries.specs.declared.batched.Batched.{Batched}
+use Rattle.entries.specs.declared.batched.Batched.the-variants.{Converted, Refused}
+use Rattle.desk.specs.Order.{Check, passes, refuses, settled}
+use Rattle.opened.specs.Opened.{coefficientsIn}
+use Rattle.desk.specs.Conversion.{answering, heldBy, convertJudged, convertOf}
+use Rattle.entries.specs.Entries.{entryOf, earlier, triedOf}
+use Rattle.entries.proofs.TriedLists.{never-both, AllAccepted, FirstRefused, tried-accepted, tried-refused}
+use Rattle.batch.specs.Batch.{batchSettled, batchOf, batchInto}
+use Rattle.walk.proofs.Steps.{not-both}
+use Rattle.desk.proofs.Asking.{settled-fits}
+use Rattle.desk.proofs.Steps.{conversion-steps}
+
+-- ---- a batch, by the conversions of its entries where there is an entry, trying what is settled
+-- is trying the entries' conversions, also where 1 or the table is refused
+check-tried : (check : Check) (entry : ℤ → Answer) (many : ℕ) (tick : ℤ) (more : List ℤ)
+    → batchSettled check (triedOf entry many 0 (tick ∷ more))
+    ≡ triedOf (λ t. answering check (entry t)) many 0 (tick ∷ more)
+unfolding triedOf
+check-tried passes entry many tick more = refl
+check-tried (refuses refusal) entry many tick more = refl
+
+-- an accepted batch was settled
+check-accepted : (check : Check) (batched : Batched) {n : ℕ} → batchSettled check batched ≡ Converted n
+    → (check ≡ passes) × (batched ≡ Converted n)
+check-accepted passes batched e = (refl, e)
+check-accepted (refuses refusal) batched e = never-both refl e
+
+-- an empty batch is refused where every conversion is, with the same refusal
+check-empty : (check : Check) (entry : ℤ → Answer) (many : ℕ) {refusal : Refusal} {index : ℕ}
+    → batchSettled check (triedOf entry many 0 []) ≡ Refused refusal index
+    → (index ≡ 0) × ((tick : ℤ) → answering check (entry tick) ≡ Answer.Refused refusal)
+unfolding triedOf
+check-empty passes entry many e = never-both e refl
+check-empty (refuses first) entry many {refusal} e =
+    let same : first ≡ refusal = cc in
+    (cc, λ tick. ap Answer.Refused same)
+
+-- a conversion's answer as that of a batch
+abbrev pub alone : Answer → Batched
+alone (Answer.Converted epoch n) = Converted n
+alone (Answer.Refused refusal) = Refused refusal 0
+
+module _ (from to : ℕ) (bytes : List ℕ) where
+  -- the conversion of one entry
+  abbrev conversion : ℤ → Answer
+  conversion tick = convertOf from to (Ticks tick) bytes
+
+  -- the same entry where all is settled
+  abbrev entry : ℤ → Answer
+  entry tick = entryOf (named from) (named to) (heldBy (judged bytes)) (coefficientsIn bytes) tick
+
+  abbrev many-steps : ℕ
+  many-steps = steps (named from) (named to)
+
+  -- where there is an entry, a batch tries the conversions of its entries
+  pub batch-tried : (ticks : List ℤ) (many : ℕ) → length ticks ≡ many → 0 < length ticks
+      → batchOf from to ticks many bytes ≡ triedOf conversion many-steps 0 ticks
+  unfolding batchOf convertOf convertJudged settled
+  batch-tried [] many long some = absurd (not-suc-le-zero some)
+  batch-tried (tick ∷ more) many long some =
+      rw (eq-eqb _ _ long) (check-tried (settled P.Reading from to true (judged bytes)) entry many-steps tick more)
+
+  -- 'the earliest refusal is the batch's, with its index': before it every conversion is accepted,
+  -- at it the conversion is refused the same
+  pub batch-refused : (ticks : List ℤ) (many : ℕ) {refusal : Refusal} {index : ℕ} → length ticks ≡ many
+      → 0 < length ticks
+      → batchOf from to ticks many bytes ≡ Refused refusal index → FirstRefused conversion ticks refusal index
+  batch-refused ticks many {refusal} long some e =
+      let told = tried-refused conversion _ 0 ticks (sym (batch-tried ticks many long some) ∙ e) in
+      subst (FirstRefused conversion ticks refusal) (sym (told .1 ∙ zero-add (told .0))) (told .2)
+
+  -- 'An empty batch still gets checks 1, 8 and the table', with index 0
+  pub empty-refused : {refusal : Refusal} {index : ℕ} → batchOf from to [] 0 bytes ≡ Refused refusal index
+      → (index ≡ 0) × ((tick : ℤ) → conversion tick ≡ Answer.Refused refusal)
+  unfolding batchOf convertOf convertJudged settled
+  empty-refused e = check-empty (settled P.Reading from to true (judged bytes)) entry many-steps e
+
+  module _ (ticks : List ℤ) (many : ℕ) {n : ℕ} (accepted : batchOf from to ticks many bytes ≡ Converted n) where
+    was-settled : (settled P.Batch from to (eqb (length ticks) many) (judged bytes) ≡ passes)
+        × (triedOf entry many-steps 0 ticks ≡ Converted n)
+    unfolding batchOf
+    was-settled =
+        check-accepted (settled P.Batch from to (eqb (length ticks) many) (judged bytes)) (triedOf entry many-steps 0 ticks) accepted
+
+    -- 'into a second list of equal length'
+    pub accepted-long : length ticks ≡ many
+    accepted-long = eqb-true _ _ (settled-fits P.Batch from to _ (judged bytes) (was-settled .0))
+
+    -- 'An accepted batch answers the path's steps'
+    pub accepted-steps : n ≡ steps (named from) (named to)
+    accepted-steps = tried-accepted entry many-steps 0 ticks (was-settled .1) .0
+
+    -- every conversion is accepted, with the same steps
+    pub accepted-entries : (i : ℕ) → i < length ticks
+        → (epoch : Epoch) × (conversion (getD ticks i (pos 0)) ≡ Answer.Converted epoch n)
+    accepted-entries i h =
+        let some : 0 < length ticks = omega arith in
+        let told = tried-accepted conversion _ 0 ticks (sym (batch-tried ticks many accepted-long some) ∙ accepted) .1 i h in
+        let same : told .1 ≡ n = conversion-steps from to (Ticks (getD ticks i (pos 0))) bytes (told .2) ∙ sym accepted-steps in
+        (told .0, told .2 ∙ ap (Answer.Converted (told .0)) same)
+
+  -- and the second list holds their ticks, place by place
+  pub accepted-ticks : (ticks answers : List ℤ) {n : ℕ} → batchOf from to ticks (length answers) bytes ≡ Converted n
+      → (i : ℕ) → i < length ticks
+      → getD (batchInto from to ticks answers bytes) i (pos 0) ≡ answerTick (conversion (getD ticks i (pos 0)))
+  unfolding batchInto
+  accepted-ticks ticks answers e i h = rw e (map-at (λ tick. answerTick (conversion tick)) ticks (pos 0) (pos 0) i h)
+
+  -- 'nothing is written'
+  pub refused-untouched : (ticks answers : List ℤ) {refusal : Refusal} {index : ℕ}
+      → batchOf from to ticks (length answers) bytes ≡ Refused refusal index
+      → batchInto from to ticks answers bytes ≡ answers
+  unfolding batchInto
+  refused-untouched ticks answers e = rw e
+
+  -- where every conversion is accepted, so is the batch
+  pub all-accepted : (ticks : List ℤ) (many : ℕ) → length ticks ≡ many → 0 < length ticks
+      → AllAccepted conversion ticks (length ticks)
+      → batchOf from to ticks many bytes ≡ Converted (steps (named from) (named to))
+  all-accepted ticks many long some all = go (batchOf from to ticks many bytes) refl
+    where
+      go : (answer : Batched) → batchOf from to ticks many bytes ≡ answer
+          → batchOf from to ticks many bytes ≡ Converted (steps (named from) (named to))
+      go (Converted n) e = e ∙ ap Converted (accepted-steps ticks many e)
+      go (Refused refusal index) e =
+          let first = batch-refused ticks many long some e in
+          not-both (first .refuses) (all index (first .inside) .2)
+
+  -- '8: lent lengths don't fit', after 1
+  pub unfit-refused : (ticks : List ℤ) (many : ℕ) → isCode P.Batch from ≡ true → isCode P.Batch to ≡ true
+      → (length ticks ≡ many → ⊥) → batchOf from to ticks many bytes ≡ Refused (record { number = 8; place = 0 }) 0
+  unfolding batchOf settled
+  unfit-refused ticks many begins ends unfit = rw (ne-eqb _ _ unfit, begins, ends)
+
+  -- a batch of one is the conversion of that one
+  pub batch-of-one : (tick : ℤ) → batchOf from to (tick ∷ []) 1 bytes ≡ alone (conversion tick)
+  unfolding triedOf
+  batch-of-one tick =
+      batch-tried (tick ∷ []) 1 refl (omega arith)
+      ∙ one (conversion tick) (λ epoch n d. conversion-steps from to (Ticks tick) bytes d)
+    where
+      one : (answer : Answer) {many : ℕ} → ((epoch : Epoch) (n : ℕ) → answer ≡ Answer.Converted epoch n → n ≡ many)
+          → earlier answer 0 (Converted many) ≡ alone answer
+      one (Answer.Converted epoch n) h = ap Converted (sym (h epoch n refl))
+      one (Answer.Refused refusal) h = refl

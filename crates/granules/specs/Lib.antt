@@ -1,0 +1,4 @@
+pub mod Tests
+pub mod Answers
+pub mod Accepted
+pub mod Pass
