@@ -13,7 +13,8 @@
    number  when                                                            place
    1       a scale code is above 6                                         0 from, 1 to
    2       a double is NaN or infinite                                     part, 0 or 1
-   3       a date part lies beyond 5,000,000 days, seconds beyond 10^10    part, 0 or 1
+   3       a date part lies beyond 5,000,000 days either way,              part, 0 or 1
+           seconds beyond 10^10
    4       an epoch lies outside -6*10^18 .. 6*10^18                       steps done, the one that
                                                                            led outside counted
    6       an epoch lies outside the table                                 steps done

@@ -14,7 +14,7 @@ mod tables;
 mod trial;
 mod written_dates;
 
-pub use buffers::bytes_of_ticks;
+pub use buffers::{blank, bytes_of_ticks};
 pub use interface::{Answer, Asked, Called, Date, Desk, Lent, Outcome, Reply, TableAnswer};
 pub use ledger::Ledger;
 pub use own::Own;

@@ -15,3 +15,4 @@ pub mod line;
 pub mod refusal;
 pub mod scales;
 pub mod table;
+pub mod values;

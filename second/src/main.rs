@@ -1,15 +1,15 @@
-//! The commands: `second tickline`, `second compare`, `second fuzz`. A fourth,
-//! `second bridge`, is there for second's own tests alone.
+//! The commands: `second tickline`, `second compare`, `second values`, `second
+//! fuzz`. A fifth, `second bridge`, is there for second's own tests alone.
 
 use second::bridge::{self, Bridge, Fault};
 use second::compare::{self, Desk, Size, Stage};
-use second::{fuzz, line};
+use second::{fuzz, line, values};
 use std::io::{self, BufReader, BufWriter};
 use std::path::Path;
 use std::process::ExitCode;
 
-const USAGE: &str =
-    "usage: second tickline | second compare [COMMAND..] | second fuzz [--cases N] COMMAND..";
+const USAGE: &str = "usage: second tickline | second compare [COMMAND..] | \
+     second values COMMAND.. | second fuzz [--cases N] COMMAND..";
 const SEED: u64 = 1;
 const SIZE: Size = Size {
     tables: 160,
@@ -26,6 +26,7 @@ fn main() -> ExitCode {
             ExitCode::SUCCESS
         }
         ["compare", command @ ..] => compare_archive(command),
+        ["values", command @ ..] if !command.is_empty() => values_of_archive(command),
         ["fuzz", "--cases", cases, command @ ..] => match cases.parse() {
             Ok(cases) if !command.is_empty() => fuzz_program(command, cases),
             _ => usage(),
@@ -74,6 +75,27 @@ fn compare_archive(command: &[&str]) -> ExitCode {
     match compare::run(start, &Stage::new(SEED, SIZE)) {
         Ok(0) => ExitCode::SUCCESS,
         Ok(_) => ExitCode::FAILURE,
+        Err(what) => {
+            eprintln!("{}: {what}", command.join(" "));
+            ExitCode::FAILURE
+        }
+    }
+}
+
+fn values_of_archive(command: &[&str]) -> ExitCode {
+    let run = Bridge::start(command, bridge::TIME_LIMIT)
+        .and_then(|mut bridge| values::run(values::PAGE, &mut bridge));
+    match run {
+        Ok(run) => {
+            println!("{}", run.summary());
+            for difference in &run.differences {
+                println!("    {difference}");
+            }
+            match run.differences.is_empty() {
+                true => ExitCode::SUCCESS,
+                false => ExitCode::FAILURE,
+            }
+        }
         Err(what) => {
             eprintln!("{}: {what}", command.join(" "));
             ExitCode::FAILURE

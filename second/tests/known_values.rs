@@ -1,21 +1,132 @@
-//! Every known value of 01, marked P or not, and the example of the line program.
+//! The values of 01, all from data/values.txt; that `second values` tells every
+//! difference; and 01's easy slips.
 
+mod planted;
+
+use planted::planted;
 use second::blocks;
-use second::dates::{Reading, write_date};
-use second::desk::{Converted, convert};
-use second::line;
+use second::compare::{Asked, Called, Lent, Own, Reply};
+use second::dates::Reading;
+use second::desk::convert;
 use second::refusal::Refusal;
 use second::table::{Judged, Table};
+use second::values::{PAGE, run};
+use std::process::{Command, Output};
 
-const GPS: u32 = 1;
-const TAI: u32 = 2;
 const TT: u32 = 3;
-const TCG: u32 = 4;
 const TDB: u32 = 5;
 const TCB: u32 = 6;
 
-fn no_table() -> Judged {
-    blocks::judge(&[])
+#[test]
+fn second_answers_what_the_page_says() {
+    let run = run(PAGE, &mut Own::default()).unwrap();
+    assert_eq!(run.differences, [""; 0]);
+}
+
+/// "P1 to P13 are one table", and all of them are run too.
+#[test]
+fn every_p_has_its_row() {
+    let mut marks = run(PAGE, &mut Own::default()).unwrap().marks;
+    marks.dedup();
+    let expected: Vec<String> = (1..=13).map(|p| format!("P{p}")).collect();
+    assert_eq!(marks, expected);
+}
+
+/// The first of the differences with second's own functions, but for the change
+/// of what each call did.
+#[track_caller]
+fn first_difference(table: &str, change: impl FnMut(Asked, &Lent, &mut Called)) -> String {
+    let run = run(table, &mut planted(change)).unwrap();
+    run.differences.first().expect("a difference").clone()
+}
+
+#[test]
+fn a_row_that_says_another_answer_is_told() {
+    for wrong in [
+        "| TCB 0 to TDB | | -65501, 1 step",
+        "| TCB 0 to TDB | | -65500, 2 steps",
+        "| TT 0 to TDB | | refused 10 at 1",
+        "| TT 0 to TDB | | refused 6 at 0",
+        "| date of 0 | | (2443144.5, 0)",
+        "| judge | n=0 S=0 H=10^9 G=2 c=0,1025 | passes",
+        "| read | n=0 S=0 H=10^9 G=2 c=0,1024 | refused 16 at 1",
+        "| write | n=0 S=0 H=10^9 G=1 c=2^40 | refused 14 at 0",
+    ] {
+        let told = first_difference(wrong, |_, _, _| ());
+        let line = format!("line 1, {wrong}: the library answers ");
+        assert!(told.starts_with(&line), "{told}");
+    }
+}
+
+/// Every function's answer is looked at, and the buffer that it was lent.
+#[test]
+fn another_answer_than_the_page_s_is_told() {
+    let told = first_difference(PAGE, |_, _, called| match &mut called.reply {
+        Reply::Answer(answer) => answer.tick += i64::from(answer.tick == 250_000_000),
+        Reply::Date(_) | Reply::Table(_) => {}
+    });
+    assert!(told.contains("TT 250000000 to TDB"), "{told}");
+    let told = first_difference(PAGE, |_, _, called| match &mut called.reply {
+        Reply::Table(table) => table.number = 0,
+        Reply::Answer(_) | Reply::Date(_) => {}
+    });
+    assert!(told.contains("10^9+1"), "{told}");
+    let told = first_difference(PAGE, |_, _, called| match &mut called.reply {
+        Reply::Date(date) => date.second = -date.second,
+        Reply::Answer(_) | Reply::Table(_) => {}
+    });
+    assert!(told.contains("date of -32184000000"), "{told}");
+    let told = first_difference(PAGE, |_, _, called| {
+        if let Some(last) = called.buffer.last_mut() {
+            *last ^= 1;
+        }
+    });
+    assert!(told.contains("the lent buffer"), "{told}");
+    let told = first_difference(PAGE, |_, _, called| called.beside.push("written beside"));
+    assert!(told.contains("written beside"), "{told}");
+}
+
+#[test]
+fn a_row_that_is_not_understood_ends_the_run() {
+    for wrong in [
+        "TCB 0 to TDB is -65500",
+        "| TCB 0 to TDB | -65500, 1 step",
+        "| TCB 0 to TDB | | -65500",
+        "| TCB zero to TDB | | -65500, 1 step",
+        "| UTC 0 to TDB | | -65500, 1 step",
+        "| TCB 0 | | -65500, 1 step",
+        "| TCB 0 to TDB | | refused 4",
+        "| TCB (0) to TDB | | refused 4 at 0",
+        "| judge | | passes",
+        "| guess | n=0 S=0 H=10^9 G=1 c=0 | passes",
+        "| judge | n=0 S=0 H=10^9 G=1 c=0,0 | passes",
+        "| judge | n=0 S=0 H=10^9 G=1 | passes",
+        "| judge | n=0 S=0 H=10^9 G=1 c=0 | 0, 1 step",
+        "| date of 0 | n=0 S=0 H=10^9 G=1 c=0 | (2443144.5, 0)",
+    ] {
+        let why = run(wrong, &mut Own::default()).unwrap_err();
+        assert_eq!(why, format!("line 1, {wrong}: not understood"));
+    }
+    assert!(run("# no row\n", &mut Own::default()).is_err());
+}
+
+/// The command, with second's own double of a bridge that has this fault.
+fn values_of(fault: &str) -> Output {
+    let second = env!("CARGO_BIN_EXE_second");
+    let mut command = Command::new(second);
+    command.args(["values", second, "bridge", fault]);
+    command.output().unwrap()
+}
+
+#[test]
+fn the_command_counts_rows_and_fails_with_a_difference() {
+    let right = values_of("none");
+    let printed = String::from_utf8(right.stdout).unwrap();
+    assert!(printed.ends_with(" 0 differences\n"), "{printed}");
+    assert!(right.status.success());
+    for fault in ["wrong", "wrong-byte", "changes-table", "ends"] {
+        assert_eq!(values_of(fault).status.code(), Some(1), "{fault}");
+    }
 }
 
 /// A table from S = 0 with H = 10^9, written as blocks and judged.
@@ -35,132 +146,13 @@ fn tick(from: u32, to: u32, tick: i64, table: &Judged) -> Result<i64, Refusal> {
     Ok(answer.tick)
 }
 
-#[track_caller]
-fn linear(from: u32, to: u32, given: i64, expected: i64) {
-    let answer = convert(from, to, Reading::Ticks(given), &no_table());
-    let expected = Converted {
-        tick: expected,
-        steps: 1,
-    };
-    assert_eq!(answer, Ok(expected));
-}
-
-#[test]
-fn p1_tcb_0() {
-    linear(TCB, TDB, 0, -65_500);
-}
-
-#[test]
-fn p2_tcg() {
-    linear(TCG, TT, 1_000_000_000_000_000_000, 999_999_999_303_070_987);
-}
-
-#[test]
-fn p3_tcb_and_back() {
-    linear(TCB, TDB, 100_000_000_000_000_000, 99_999_998_449_414_732);
-    linear(TDB, TCB, 99_999_998_449_414_732, 100_000_000_000_000_000);
-}
-
-#[test]
-fn p4_a_half() {
-    linear(TCB, TDB, 6_250_000_000_000_000, 6_249_999_903_027_015);
-}
-
-#[test]
-fn p5_its_negative() {
-    linear(TCB, TDB, -6_250_000_000_000_000, -6_249_999_903_158_014);
-}
-
-#[test]
-fn p6_two_ticks_give_one() {
-    linear(TCB, TDB, 32_247_250, 32_181_750);
-    linear(TCB, TDB, 32_247_251, 32_181_750);
-    linear(TDB, TCB, 32_181_750, 32_247_250);
-}
-
-#[test]
-fn p7_p8_p9_degree_0() {
-    for (c_0, d) in [(32_767, 0), (32_768, 1), (-32_768, 0)] {
-        let table = table(0, &[c_0]);
-        assert_eq!(tick(TT, TDB, 500, &table), Ok(500 - d), "c_0 = {c_0}");
-    }
-}
-
-#[test]
-fn p10_p11_degree_1() {
-    let table = table(1, &[0, 65_536]);
-    assert_eq!(tick(TT, TDB, 0, &table), Ok(1));
-    assert_eq!(tick(TDB, TT, 1, &table), Ok(0));
-    assert_eq!(tick(TT, TDB, 1_000_000_000, &table), Ok(999_999_999));
-    assert_eq!(tick(TDB, TT, 999_999_999, &table), Ok(1_000_000_000));
-    assert_eq!(tick(TT, TDB, 250_000_000, &table), Ok(250_000_000));
-    let outside = Err(Refusal::new(6, 0));
-    assert_eq!(tick(TDB, TT, 0, &table), outside);
-    assert_eq!(tick(TDB, TT, 1_000_000_000, &table), outside);
-}
-
-#[test]
-fn weight_at_its_bound() {
-    assert!(table(1, &[0, 1_000_000_000]).is_ok());
-    assert_eq!(table(1, &[0, 1_000_000_001]), Err(Refusal::new(15, 0)));
-}
-
-#[test]
-fn join_at_its_bound() {
-    assert!(table(0, &[0, 1024]).is_ok());
-    assert_eq!(table(0, &[0, 1025]), Err(Refusal::new(16, 1)));
-}
-
-#[test]
-fn coefficient_at_its_bound() {
-    assert!(table(0, &[1 << 40]).is_ok());
-    assert_eq!(table(0, &[(1 << 40) + 1]), Err(Refusal::new(14, 0)));
-}
-
-#[test]
-fn p12_p13_dates() {
-    let p12 = -32_184_000_000;
-    assert_eq!(Reading::TwoPart(2_443_144.5, 0.0).epoch(), Ok(p12));
-    let p13 = 725_803_167_816_000_000;
-    assert_eq!(Reading::TwoPart(2_451_545.0, 0.0).epoch(), Ok(p13));
-    assert_eq!(Reading::SinceJ2000(0.0).epoch(), Ok(p13));
-    assert_eq!(Reading::TwoPart(5_000_000.0, -2_556_855.5).epoch(), Ok(p12));
-    assert_eq!(write_date(p12), Ok((2_443_144.5, 0.0)));
-    assert_eq!(write_date(p13), Ok((2_451_544.5, 0.5)));
-}
-
-#[test]
-fn nan_in_either_part_is_2() {
-    for (first, second, part) in [(f64::NAN, 0.0, 0), (0.0, f64::NAN, 1)] {
-        let reading = Reading::TwoPart(first, second);
-        assert_eq!(reading.epoch(), Err(Refusal::new(2, part)));
-    }
-}
-
-#[test]
-fn the_rules_of_the_plain_steps() {
-    linear(GPS, TAI, 0, 19_000_000_000);
-    linear(TAI, GPS, 0, -19_000_000_000);
-    linear(TAI, TT, 0, 32_184_000_000);
-    linear(TT, TAI, 0, -32_184_000_000);
-}
-
-#[test]
-fn the_example() {
-    let input = b"6 5 100000000000000000\n0 2 0\n4 9 1\n";
-    let mut output = Vec::new();
-    line::run(&mut &input[..], &mut output, &no_table()).unwrap();
-    let expected = "5 99999998449414732 1\n2 -32184000000 1\nrefused 1\n";
-    assert_eq!(String::from_utf8(output).unwrap(), expected);
-}
-
 /// "Inverting L_B by adding L_B·TDB: wrong by whole ticks at large epochs."
 #[test]
 fn the_easy_slip_of_the_inverse_differs() {
     let tdb = 5_000_000_000_000_000_000_i64;
     let slip =
         i128::from(tdb) + 65_500 + i128::from(tdb + 65_500) * 1_550_519_768 / 10_i128.pow(17);
-    let right = tick(TDB, TCB, tdb, &no_table()).unwrap();
+    let right = tick(TDB, TCB, tdb, &blocks::judge(&[])).unwrap();
     assert!(i128::from(right) - slip > 1_000);
 }
 

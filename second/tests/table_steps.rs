@@ -44,17 +44,6 @@ fn known() -> Judged {
 }
 
 #[test]
-fn the_known_values_one_step_each_way() {
-    assert_eq!(forward(0, &known()), stepped(1));
-    assert_eq!(back(1, &known()), stepped(0));
-    assert_eq!(forward(SECOND, &known()), stepped(SECOND - 1));
-    assert_eq!(back(SECOND - 1, &known()), stepped(SECOND));
-    assert_eq!(forward(250_000_000, &known()), stepped(250_000_000));
-    assert_eq!(back(0, &known()), refused(6, 0));
-    assert_eq!(back(SECOND, &known()), refused(6, 0));
-}
-
-#[test]
 fn outside_the_table_is_6_and_no_epoch_is_4() {
     let end = GREATEST_EPOCH;
     for tick in [-1, SECOND + 1, end, -end] {

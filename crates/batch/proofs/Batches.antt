@@ -30,9 +30,9 @@ use Rattle.desk.specs.Conversion.{heldBy, convertOf}
 use Rattle.desk.specs.Inner.{askedOf, convertAsked}
 use Rattle.desk.proofs.Asking.{asked-fits, settledBy, Between, asks, between-unseen, over-bytes}
 use Rattle.entries.specs.Entries.{entryOf, triedOf, allTried}
-use Rattle.entries.proofs.Loops.{filled-not}
+use Rattle.filling.proofs.Filling.{filled-not}
 use Rattle.batch.specs.Batch.{batchSettled, batchOf, batchInto, HasConverted}
-use Rattle.entries.specs.Inner.{Filled}
+use Rattle.filling.specs.Inner.{Filled}
 use Rattle.batch.specs.Inner.{FilledTaken, FilledCrossing, batchAsked}
 use Rattle.opened.proofs.Opening.{coefficients-are}
 

@@ -14,7 +14,7 @@ use Rattle.dates.specs.Readings.{readOf}
 use Rattle.entries.specs.declared.batched.Batched.{Batched}
 use Rattle.entries.specs.declared.batched.Batched.the-variants as Batched
 use Rattle.walk.specs.declared.kept.Kept.the-variants as K
-use Rattle.entries.specs.Inner.{Filled, FilledOver}
+use Rattle.filling.specs.Inner.{Filled, FilledOver}
 use Rattle.desk.specs.declared.asked.Asked.{Asked}
 use Rattle.desk.specs.declared.asked.Asked.the-variants as A
 use Rattle.desk.specs.Order.{ofTable}

@@ -4,8 +4,8 @@ use blocks::answer::Judged;
 use blocks::judging::judge;
 use desk::asked::Asked;
 use desk::asked::asked_of;
-use entries::batch_over;
 use entries::batched::Batched;
+use filling::batch_over;
 use image::table::Table;
 use opened::how_many;
 use opened::taken;
@@ -15,7 +15,7 @@ use walk::kept::Kept;
 ghost use mathlib.Core.Path.{_≡_};
 ghost use lib.ListN.{length};
 ghost use Rattle.batch.specs.Batch.{HasConverted};
-ghost use Rattle.entries.specs.Inner.{Ready, FilledOver};
+ghost use Rattle.filling.specs.Inner.{Ready, FilledOver};
 ghost use Rattle.batch.specs.Inner.{ReadyOver, FilledTaken};
 ghost use Rattle.batch.specs.Inner.{FilledCrossing};
 

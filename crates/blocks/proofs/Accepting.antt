@@ -11,7 +11,8 @@ use lib.IntN.{ℤ}
 use lib.ListN.{length}
 use Rattle.numbers.proofs.Flags.{both}
 use Rattle.numbers.proofs.Places.{all-pass, none-fails}
-use Rattle.numbers.proofs.Verdicts.{AllPass, pass-both, pass-join, single-is, single-told, all-none}
+use Rattle.numbers.specs.Tests.{AllPass}
+use Rattle.numbers.proofs.Verdicts.{pass-both, pass-join, single-is, single-told, all-none}
 use Rattle.words.specs.Words.{block}
 use Rattle.words.specs.Check.{isChecked}
 use Rattle.form.specs.Form.{blocksOf}

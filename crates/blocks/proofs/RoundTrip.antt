@@ -27,7 +27,7 @@ use Rattle.image.proofs.Again.{HoldsTable, same-image}
 use Rattle.image.proofs.Bounding.{bounds-told, bounds-is, at-most}
 use Rattle.granules.specs.Tests.{granuleTests}
 use Rattle.granules.specs.Accepted as table
-use Rattle.granules.proofs.Accepting.{passed-accepted, accepted-passes}
+use Rattle.granules.proofs.Accepting.{passed-accepted, accepted-passes, accepted-small}
 use Rattle.blocks.specs.declared.answer.Judged.the-variants.{Accepted}
 use Rattle.blocks.specs.Answers.{judgedRefused}
 use Rattle.blocks.specs.Judging.{isWhole, judged, readJudged, readInto, sizeTests, writeTests, writeJudged, writeInto}
@@ -67,7 +67,7 @@ module _ (t : Table) (c : List ℤ) (a : table.Accepted t c) where
           let g = i / (n + 1) in
           let m = i % (n + 1) in
           let hg : g < t .count = div-lt-iff-lt-mul {k = n + 1} {x = i} {y = t .count} (omega arith) .1 (subst (λ (l : ℕ). i < l) (a .whole) h) in
-          let s = small-at (granuleIn c n g) m (a .small g hg) in
+          let s = small-at (granuleIn c n g) m (accepted-small t c a g hg) in
           let e = granule-at c n g m (mod-lt i (omega arith)) ∙ ap (λ (k : ℕ). getD c k (pos 0)) (div-add-mod' i (n + 1)) in
           subst (SFits w64) e (fits _ (omega (arith, s)))
       by (no h) = subst (SFits w64) (sym (List·getD-eq-default c (pos 0) {n = i} (omega arith))) nothing

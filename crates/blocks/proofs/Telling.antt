@@ -5,7 +5,7 @@ use mathlib.Core.List.{List, [], _∷_}
 use Prim.Native.Nat.{ℕ}
 use native.Mathlib.Omega.{arith}
 use lib.Dec.{ltb}
-use Rattle.numbers.specs.Tests.{Test, failsAt, verdict}
+use Rattle.numbers.specs.Tests.{Test, failsAt, verdict, AllPass}
 use Rattle.numbers.proofs.Verdicts as tests
 use Rattle.image.specs.declared.table.Table.{Table}
 use Rattle.granules.specs.declared.Tested.the-variants.{Passed}
@@ -40,7 +40,7 @@ same-accepted (x ∷ xs) s t e = by (ltb (failsAt x) (x .places)) (same-accepted
     by false h d = h d
 
 -- and every test of the list has passed
-pub all-passed : (xs : List Test) (s t : Table) → judgedBy xs s ≡ Accepted t → tests.AllPass xs
+pub all-passed : (xs : List Test) (s t : Table) → judgedBy xs s ≡ Accepted t → AllPass xs
 all-passed xs s t e =
     tests.none-all judgedRefused (Accepted s) (judged-tells s) xs (e ∙ ap Accepted (sym (same-accepted xs s t e)))
 

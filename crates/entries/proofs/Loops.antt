@@ -1,26 +1,24 @@
--- The laws of the loops over entries: how those that are left are tried, the ends of a list, what
--- is written. Assumes nothing.
-use mathlib.Core.Path.{_≡_, refl, sym, _∙_}
+-- The laws of the loops over entries: how those that are left are tried, and the ends of a list.
+-- Assumes nothing.
+use mathlib.Core.Path.{_≡_, refl, _∙_}
 use mathlib.Core.List.{List}
 use Prim.Native.Nat.{ℕ, _+_, _≤_, _<_}
 use native.Mathlib.Numerals.{add-one}
-use borrow.Author.Count.{below-more}
 use lib.IntN.{ℤ, pos}
-use lib.ListN.{length, getD, set, drop, drop-of-length-le}
-use lib.Seq.{drop-cons, getD-set-same, getD-set-other}
+use lib.ListN.{length, getD, drop, drop-of-length-le}
+use lib.Seq.{drop-cons}
 use Rattle.scales.specs.declared.answer.Answer.{Answer}
 use Rattle.scales.specs.declared.answer.Answer.the-variants as Answer
 use Rattle.scales.specs.declared.answer.Epoch.{Epoch}
 use Rattle.scales.specs.declared.refusal.Refusal.{Refusal}
 use Rattle.scales.specs.declared.scale.Scale.{Scale}
-use Rattle.image.proofs.Stores.{not-same}
 use Rattle.dates.specs.Readings.{inRange, readOf}
 use Rattle.entries.specs.declared.batched.Batched.{Batched}
 use Rattle.entries.specs.declared.batched.Batched.the-variants.{Converted, Refused}
 use Rattle.walk.specs.declared.kept.Kept.{Kept}
 use Rattle.desk.specs.Conversion.{betweenOf}
 use Rattle.entries.specs.Entries.{entryOf, earlier, triedOf}
-use Rattle.entries.specs.Inner.{soonerOf, laterOf, endsOf, ticksBy, Filled}
+use Rattle.entries.specs.Inner.{soonerOf, laterOf, endsOf}
 
 -- ---- the entries that are left, from an index on
 module _ (entry : ℤ → Answer) (steps : ℕ) (ticks : List ℤ) (index : ℕ) where
@@ -55,24 +53,6 @@ module _ (earliest latest : ℤ) (ticks : List ℤ) (index : ℕ) where
       → endsOf earliest latest (drop index ticks) ≡ record { earliest = earliest; latest = latest }
   unfolding endsOf
   no-wider h = rw (drop-of-length-le ticks h)
-
--- ---- what is written so far, and one more
-pub written-more : (l : List ℤ) (i : ℕ) (x : ℤ) (of : ℕ → ℤ) → i < length l
-    → ((j : ℕ) → j < i → getD l j (pos 0) ≡ of j) → x ≡ of i → (j : ℕ) → j < i + 1
-    → getD (set l i x) j (pos 0) ≡ of j
-written-more l i x of h before here = below-more (λ j. getD (set l i x) j (pos 0) ≡ of j) i
-    (λ j k. getD-set-other l i j x (pos 0) (not-same k) ∙ before j k)
-    (getD-set-same l i x (pos 0) h ∙ here)
-
--- ---- a batch's answer and the second list
-module _ {answer : Batched} {entry : ℤ → Answer} {ticks answers : List ℤ} where
-  pub filled-not : (refusal : Refusal) (index : ℕ) → answer ≡ Refused refusal index
-      → Filled answer entry ticks answers answers (Refused refusal index)
-  filled-not refusal index e = record { is = sym e; list = rw e }
-
-  pub filled-all : (steps : ℕ) {answers' : List ℤ} → answer ≡ Converted steps → answers' ≡ ticksBy entry ticks
-      → Filled answer entry ticks answers answers' (Converted steps)
-  filled-all steps e d = record { is = sym e; list = rw e d }
 
 -- ---- an entry is read as the tick that it is
 pub entry-read : (from to : Scale) (kept : Kept) (coefficients : List ℤ) (tick : ℤ)

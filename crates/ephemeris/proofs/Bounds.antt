@@ -15,7 +15,8 @@ use Rattle.scales.specs.Tick.{furthest, isValid}
 use Rattle.scales.proofs.Range.{valid-size}
 use Rattle.form.specs.Few.{mostGranules}
 use Rattle.image.specs.declared.table.Table.{Table}
-use Rattle.image.specs.Bounds.{shortestLength, longestLength, endOf}
+use Rattle.granule.specs.Bounds.{shortestLength, longestLength}
+use Rattle.image.specs.Bounds.{endOf}
 use Rattle.image.proofs.Bounding.{natural, at-least, at-most, as-natural}
 pub use Rattle.image.proofs.Bounding.{not-negative}
 use Rattle.ephemeris.specs.Table.{S, H, lastPlace}

@@ -1,6 +1,6 @@
 -- Why asked + D closes in on the earliest tick. Its TDB is the asked or one more, so the place that
 -- a delay points to is as far off as the delay is, and one. D moves by at most 3 ticks in 65536, so
--- from 2^46, which no delay passes, four turns lead to one tick. Assumes nothing.
+-- from 2^28, which no delay passes, two turns lead to one tick. Assumes nothing.
 use mathlib.Core.Path.{_≡_, refl}
 use mathlib.Core.Logic.{⊎-elim}
 use mathlib.Core.List.{List}
@@ -74,25 +74,21 @@ pub record NearEarliest (T : Table) (cs : List ℤ) (asked : ℤ) (i r : ℕ) : 
 
 -- the distance after each turn
 pub reachAfter : ℕ → ℕ
-reachAfter zero = 2 ^ 46
-reachAfter (suc zero) = 3221225473
-reachAfter (suc (suc zero)) = 147457
-reachAfter (suc (suc (suc zero))) = 7
-reachAfter (suc (suc (suc (suc k)))) = 1
+reachAfter zero = 2 ^ 28
+reachAfter (suc zero) = 12289
+reachAfter (suc (suc k)) = 1
 
 less : (t : ℕ) → 3 * (reachAfter t + 1) + 68608 < 65536 * (reachAfter (suc t) + 1)
 unfolding reachAfter
 less zero = lit< tt
 less (suc zero) = lit< tt
-less (suc (suc zero)) = lit< tt
-less (suc (suc (suc zero))) = lit< tt
-less (suc (suc (suc (suc k)))) = lit< tt
+less (suc (suc k)) = lit< tt
 
-pub reach-first : reachAfter 0 ≡ 2 ^ 46
+pub reach-first : reachAfter 0 ≡ 2 ^ 28
 unfolding reachAfter
 reach-first = refl
 
-pub reach-last : reachAfter 4 ≡ 1
+pub reach-last : reachAfter 2 ≡ 1
 unfolding reachAfter
 reach-last = refl
 
@@ -127,8 +123,8 @@ module _ (T : Table) (cs : List ℤ) (A : Accepted T cs) (asked : ℤ) where
   -- at first D is taken as 0
   pub near-first : NearEarliest T cs asked (heldInside (asked +ℤ pos 0 -ℤ S T) (lastPlace T)) (reachAfter 0)
   near-first =
-      rw reach-first (pointed-near (pos 0) (2 ^ 46)
-      (negated (2 ^ 46) (tableDelay T cs (earliestPlace T cs asked)) (delay-bounded T cs A (earliestPlace T cs asked) (earliest-inside T cs asked))))
+      rw reach-first (pointed-near (pos 0) (2 ^ 28)
+      (negated (2 ^ 28) (tableDelay T cs (earliestPlace T cs asked)) (delay-bounded T cs A (earliestPlace T cs asked) (earliest-inside T cs asked))))
     where
       negated : (n : ℕ) (x : ℤ) → natAbs x ≤ n → natAbs (pos 0 -ℤ x) ≤ n
       negated n = rep _ (λ a b. simp lin (omega arith))
@@ -174,5 +170,5 @@ module _ (T : Table) (cs : List ℤ) (A : Accepted T cs) (asked : ℤ) where
           (le-or-lt (lastPlace T) i)
 
   -- ---- and after the last turn it is at most one before, or two after
-  pub near-last : (i : ℕ) → NearEarliest T cs asked i (reachAfter 4) → FromHere T cs asked (i - 1)
+  pub near-last : (i : ℕ) → NearEarliest T cs asked i (reachAfter 2) → FromHere T cs asked (i - 1)
   near-last i n = record { accepted = A; from = omega (arith, rw reach-last at (n .over)); to = omega (arith, rw reach-last at (n .under)) }

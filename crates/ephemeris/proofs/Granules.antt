@@ -12,10 +12,10 @@ use Rattle.granule.specs.Rule.{unitsInTick}
 use Rattle.granule.specs.Tests.{Passed, Meeting}
 use Rattle.granule.specs.Asked.{Evaluable}
 use Rattle.granule.proofs.Passing.{passed-of, meeting-of}
-use Rattle.granule.proofs.Distance.{delay-within}
-use Rattle.granule.proofs.Bounded.{delay-small}
+use Rattle.granule.proofs.Distance.{delay-within, delay-small}
 use Rattle.image.specs.declared.table.Table.{Table}
 use Rattle.image.specs.Image.{granuleIn}
+use Rattle.granules.proofs.Accepting.{accepted-small, accepted-light, accepted-joined}
 use Rattle.ephemeris.specs.Table.{H, lastPlace, granuleOf, placeIn, coefficientsOf, tableDelay, tableExact}
 use Rattle.ephemeris.specs.Accepted.{Bounded, Accepted}
 use Rattle.ephemeris.proofs.Bounds.{long, short}
@@ -36,12 +36,12 @@ module _ (T : Table) (cs : List ℤ) (A : Accepted T cs) where
   pub granule-passed : (g : ℕ) → g < T .count → Passed (coefficientsOf T cs g) (H T)
   granule-passed g h =
       passed-of (coefficientsOf T cs g) (H T) (omega (arith, coefficients-length g h)) (omega (arith, coefficients-length g h, A .bounds .few .degree))
-      (long T (A .bounds)) (A .light g h)
+      (long T (A .bounds)) (accepted-light T cs A g h)
 
   pub meeting : (g : ℕ) → suc g < T .count → Meeting (coefficientsOf T cs g) (coefficientsOf T cs (suc g))
   meeting g h =
       meeting-of (coefficientsOf T cs g) (coefficientsOf T cs (suc g)) (coefficients-length g (omega arith) ∙ sym (coefficients-length (suc g) h))
-      (A .joined g h)
+      (accepted-joined T cs A g h)
 
   pub same-degree : (g : ℕ) → g < T .count → length (coefficientsOf T cs g) - 1 ≡ T .degree
   same-degree g h = omega (arith, coefficients-length g h)
@@ -58,13 +58,16 @@ module _ (T : Table) (cs : List ℤ) (A : Accepted T cs) where
       let l = coefficients-length (granuleOf T i) (a .there) in
       record {
         some = omega (arith, l);
-        summable = record { few = omega (arith, l, A .bounds .few .degree); small = A .small (granuleOf T i) (a .there) };
+        summable = record { few = omega (arith, l, A .bounds .few .degree); small = accepted-small T cs A (granuleOf T i) (a .there) };
         placed = record { long = long T (A .bounds); short = short T (A .bounds); inside = in-granule i h };
       }
 
-  pub delay-bounded : (i : ℕ) → i ≤ lastPlace T → natAbs (tableDelay T cs i) ≤ 2 ^ 46
+  pub delay-bounded : (i : ℕ) → i ≤ lastPlace T → natAbs (tableDelay T cs i) ≤ 2 ^ 28
   unfolding tableDelay
-  delay-bounded i h = delay-small (coefficientsOf T cs (granuleOf T i)) (placeIn T i) (H T) (evaluable i h)
+  delay-bounded i h =
+      let g = granuleOf T i in
+      let a = at T (A .bounds) i h in
+      delay-small (coefficientsOf T cs g) (H T) (granule-passed g (a .there)) (placeIn T i) (in-granule i h) (accepted-small T cs A g (a .there))
 
   -- D of every tick is within 33/64 tick of the exact sum
   pub delay-exact : (i : ℕ) → i ≤ lastPlace T

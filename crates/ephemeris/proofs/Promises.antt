@@ -4,7 +4,7 @@ use mathlib.Core.Path.{_≡_, _∙_, subst}
 use mathlib.Core.Logic.{_⊎_, inl, inr, ⊎-elim, _↔_}
 use mathlib.Core.Bool.{Bool, true, false, cond}
 use mathlib.Core.List.{List}
-use Prim.Native.Nat.{ℕ, _+_, _*_, _-_, _^_, _≤_, _<_}
+use Prim.Native.Nat.{ℕ, _+_, _*_, _-_, _^_, _≤_, _<_, zero-le}
 use native.Mathlib.Nat.{le-refl}
 use native.Mathlib.Omega.{arith}
 use lib.Dec.{leb, le→leb}
@@ -185,6 +185,15 @@ module _ (T : Table) (cs : List ℤ) (A : Accepted T cs) where
         (λ (l : 0 < earliestPlace T cs a). earliest-near T cs A a (earliestPlace T cs a - 1) (omega arith))
         (le-or-lt (earliestPlace T cs a) 0),
   )
+
+  -- the TDB of a tick inside is never refused on the way back
+  pub tdb-covered : (t : ℤ) → isInside T t ≡ true → isCovered T cs (tdbOf T cs t) ≡ true
+  unfolding isCovered
+  tdb-covered t h =
+      let i = placeOf T t in
+      let low = yes-le (tdbAt T cs 0) (tdbAt T cs i) (tdb-order T cs A 0 i zero-le (placed T t h)) in
+      let high = yes-le (tdbAt T cs i) (tdbAt T cs (lastPlace T)) (tdb-order T cs A i (lastPlace T) (placed T t h) (le-refl (lastPlace T))) in
+      rw (tdb-of T cs t (inside-both T t h .0), low, high)
 
   -- ---- 4. Refusal 6 is given exactly to a TT outside the table, and to a TDB before that of the
   -- first tick or after that of the last

@@ -10,7 +10,7 @@ use Rattle.ephemeris.specs.Table.{lastPlace, isInside, earliestPlace}
 use Rattle.ephemeris.specs.Accepted.{Bounded, Accepted}
 
 -- ---- ticks
--- no TDB of a table is further: 6·10^18 and D, which is at most 2^46
+-- no TDB of a table is further: 6·10^18 and D, which is at most 2^28
 abbrev pub furthestTdb : ℕ
 furthestTdb = 7000000000000000000
 
@@ -20,7 +20,7 @@ isNear t = leZ (negℤ (pos furthestTdb)) t && leZ t (pos furthestTdb)
 -- a tick and a delay whose sum and difference fit
 pub record Movable (tick delay : ℤ) : Type 0 where
   pub near : natAbs tick ≤ furthestTdb
-  pub little : natAbs delay ≤ 2 ^ 46
+  pub little : natAbs delay ≤ 2 ^ 28
 
 -- ---- places
 -- a place of a table, as its own numbers tell

@@ -1,6 +1,6 @@
 // 'TT from TDB: the earliest tick of the table whose TDB is at or after the one asked.' D hardly
 // moves, so asked + D closes in on it: most often the table is evaluated three times. It never is
-// more than eight times, four for closing in and four for settling, whatever the table.
+// more than six times, two for closing in and four for settling, whatever the table.
 use crate::places::delay_at;
 use crate::places::inside;
 use crate::places::last_place;
@@ -68,15 +68,14 @@ fn climb(table: Table, coefficients: &[i64], asked: Tdb, from: u64) -> u64
 
 // The place of the earliest tick whose TDB is at or after the asked; the last place where there is
 // none. Where asked + D leads to the same place again, the earliest tick is there or one before.
-// Otherwise TDB jumps over the asked, and four turns have led to at most one tick after it and two
-// before.
+// Otherwise two turns have led to at most one tick after it and two before.
 pub fn earliest_place(table: Table, coefficients: &[i64], asked: Tdb) -> u64
     requires { ⌜ Asking table (now coefficients) (asked .0) ⌝ }
     ensures { λ r. ⌜ r ≡ earliestPlace table (now (coefficients .entry)) (asked .0) ⌝ }
 {
     let mut place = pointed(table, asked, 0);
     let mut turns: u64 = 0;
-    while turns < 4 {
+    while turns < 2 {
         let delay = delay_at(table, coefficients, place);
         let next = pointed(table, asked, delay);
         if next == place {

@@ -39,7 +39,7 @@ pub fn tt_of(tick: Tdb, delay: i64) -> Tt
 }
 
 // Whether a TDB is within 7·10^18 either way, so that D can be added to it. A TDB of a table always
-// is: its TT is a valid epoch, at most 6·10^18 either way, and D is at most 2^46.
+// is: its TT is a valid epoch, at most 6·10^18 either way, and D is at most 2^28.
 pub fn near(tick: Tdb) -> bool
     ensures { λ r. ⌜ r ≡ isNear (tick .0) ⌝ }
 {

@@ -6,7 +6,7 @@ use native.Mathlib.Nat.{mod-lt}
 use native.Mathlib.Omega.{arith}
 use borrow.Author.Tests.{eq-eqb, ne-eqb, lt-ltb, le-ltb, le-leb, ltb-true, leb-true}
 use lib.Dec.{ltb, leb, eqb}
-use Rattle.form.specs.Few.{mostDegree}
+use Rattle.granule.specs.Bounds.{mostDegree}
 use Rattle.form.specs.Form.{isNumber, granuleAt, whichAt, isCoefficient, isFree, fixedByte, isRight}
 use Rattle.numbers.proofs.Flags.{both, or-left, or-right, or-neither, or-told}
 

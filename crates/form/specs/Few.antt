@@ -1,9 +1,7 @@
--- 'Bounds: n 0..15, .. G 1..360': those that keep every place of a table in small numbers. Block
--- 0's form is looked at before its numbers are known, so they are asked of a bare count and degree.
+-- 'Bounds: .. G 1..360': with that of n it keeps every place of a table in small numbers. Block 0's
+-- form is looked at before its numbers are known, so both are asked of a bare count and degree.
 use Prim.Native.Nat.{ℕ, _≤_}
-
-abbrev pub mostDegree : ℕ
-mostDegree = 15
+use Rattle.granule.specs.Bounds.{mostDegree}
 
 abbrev pub mostGranules : ℕ
 mostGranules = 360

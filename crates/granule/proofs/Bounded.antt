@@ -1,5 +1,5 @@
 -- No b_k of coefficients within 2^40 comes near 2^60: each is at most 2^40, twice the one before
--- and once the one before that. Hence v stays below 2^62 and D below 2^46. Assumes nothing.
+-- and once the one before that. Assumes nothing.
 use mathlib.Core.Path.{_≡_}
 use mathlib.Core.Logic.{⊎-elim}
 use mathlib.Core.List.{List, [], _∷_}
@@ -13,6 +13,7 @@ use mathlib.Core.Bool.{true}
 use Rattle.numbers.specs.Rounding.{nearest}
 use Rattle.numbers.proofs.Order.{abs-neg, size-*, size-+}
 use Rattle.numbers.proofs.Rounding.{nearest-small}
+use Rattle.granule.specs.Bounds.{mostDegree}
 use Rattle.granule.specs.Rule.{unitsInTick, scale, pOf, uOf, bFrom, bAt, vOf, delayOf, valueAt, delayAt}
 use Rattle.granule.specs.Tests.{largest, isSmall}
 use Rattle.granule.specs.Asked.{Terms, Evaluable}
@@ -50,16 +51,16 @@ grows (suc k) m h = ⊎-elim (λ e. rw e (le-refl (top (suc k) .0))) (λ l. more
     more : {a : ℕ} → a ≤ top k .0 → a ≤ largest + 2 * (top k .0) + top k .1
     more l = omega arith
 
-last : top 15 .0 ≤ 2 ^ 60
+last : top mostDegree .0 ≤ 2 ^ 60
 unfolding top
 last = lit≤ tt
 
-pub b-bounded : (u : ℤ) (cs : List ℤ) (k : ℕ) → natAbs u ≤ scale → isSmall cs ≡ true → length cs ≤ 16 → 1 ≤ k
-    → natAbs (bAt u cs k) ≤ 2 ^ 60
+pub b-bounded : (u : ℤ) (cs : List ℤ) (k : ℕ) → natAbs u ≤ scale → isSmall cs ≡ true → length cs ≤ mostDegree + 1
+    → 1 ≤ k → natAbs (bAt u cs k) ≤ 2 ^ 60
 unfolding bAt
 b-bounded u cs k hu e few h =
-    let l : length (drop k cs) ≤ 15 = simp length-drop (omega arith) in
-    le-trans (below u hu (drop k cs) (small-drop cs k e) .0) (le-trans (grows 15 (length (drop k cs)) l) last)
+    let l : length (drop k cs) ≤ mostDegree = simp length-drop (omega arith) in
+    le-trans (below u hu (drop k cs) (small-drop cs k e) .0) (le-trans (grows mostDegree (length (drop k cs)) l) last)
 
 -- ---- what b_k and v are made of, at the turn k
 pub terms : (cs : List ℤ) (place H k : ℕ) → Evaluable cs place H
@@ -76,21 +77,3 @@ terms cs place H k e =
       coefficient = small-at cs k small;
       bounded = b-bounded u cs (suc (suc k)) hu small few (omega arith);
     }
-
--- ---- how large v and D can be, of any coefficients that pass test 14
-pub value-small : (cs : List ℤ) (place H : ℕ) → Evaluable cs place H → natAbs (valueAt cs place H) ≤ 2 ^ 62
-unfolding valueAt vOf
-value-small cs place H e =
-    let t = terms cs place H 0 e in
-    let u = uOf (pOf place H) H in
-    let b₁ = bAt u cs 1 in
-    let b₂ = bAt u cs 2 in
-    let q = nearest (u *ℤ b₁) scale in
-    let c = getD cs 0 (pos 0) in
-    let hq : natAbs q ≤ 2 ^ 60 = nearest-small (u *ℤ b₁) scale (2 ^ 60) (lit< tt) (size-* u b₁ (t .factors .argument) (t .factors .bounded)) in
-    let h : natAbs (negℤ b₂) ≤ 2 ^ 60 = rw (abs-neg b₂) (t .bounded) in
-    omega (arith, size-+ (c +ℤ q) (negℤ b₂) (size-+ c q (t .coefficient) hq) h)
-
-pub delay-small : (cs : List ℤ) (place H : ℕ) → Evaluable cs place H → natAbs (delayAt cs place H) ≤ 2 ^ 46
-unfolding delayAt delayOf
-delay-small cs place H e = nearest-small (valueAt cs place H) unitsInTick (2 ^ 46) (lit< tt) (value-small cs place H e)

@@ -1,6 +1,7 @@
 -- How near v and D are to the exact sum, its denominators multiplied out: v within n/2 +
--- weight/2^31 units, hence within 520; D within 33/64 tick. Assumes nothing.
+-- weight/2^31 units, hence within 520; D within 33/64 tick, hence at most 2^28. Assumes nothing.
 use mathlib.Core.Path.{_≡_, ap}
+use mathlib.Core.Bool.{true}
 use mathlib.Core.List.{List, [], _∷_}
 use Prim.Native.Nat.{ℕ, _+_, _*_, _-_, _^_, _≤_, _<_}
 use native.Mathlib.Nat.{mul-le-mul-left, mul-le-mul-right, le-of-mul-le-mul-left, le-refl, mul-comm}
@@ -9,16 +10,17 @@ use lib.Dec.{lit<}
 use lib.ListN.{length}
 use lib.IntN.{ℤ, pos, _+ℤ_, _-ℤ_, _*ℤ_, natAbs}
 use Rattle.numbers.specs.Rounding.{nearest}
-use Rattle.numbers.proofs.Differences.{lin}
+use Rattle.numbers.proofs.Differences.{rep₂, lin, sizes}
 use Rattle.numbers.proofs.Order.{abs-+, abs-*, size-*, size-+}
 use Rattle.numbers.proofs.Solver.{ring, quote, q-con, all₄, all₅}
 use Rattle.numbers.proofs.Rounding.{within-half, nearest-small}
 use Rattle.numbers.proofs.Chebyshev.{pow-above, pow-mul}
+use Rattle.granule.specs.Bounds.{mostDegree}
 use Rattle.granule.specs.Rule.{unitsInTick, pOf, uOf, vOf, exactFrom, exactSum, exactAt, delayOf, valueAt, delayAt}
-use Rattle.granule.specs.Tests.{weightFrom, weightOf, Passed}
+use Rattle.granule.specs.Tests.{largest, isSmall, weightFrom, weightOf, Passed}
 use Rattle.granule.proofs.Clauses.{exact-is}
 use Rattle.granule.proofs.Clenshaw.{Q, v-near}
-use Rattle.granule.proofs.Exact.{sum-scale, sum-moves}
+use Rattle.granule.proofs.Exact.{sum-scale, sum-moves, sum-small}
 
 -- ---- p: |p| ≤ H at every place of the granule
 pub p-small : (place H : ℕ) → place ≤ H → natAbs (pOf place H) ≤ H
@@ -88,6 +90,17 @@ v-at u hu (c ∷ cs) n e = let f : n ≡ length cs = omega arith in rw f (v-near
 split-id : (d v b y : ℤ) → pos 65536 *ℤ d *ℤ b -ℤ y ≡ b *ℤ (pos 65536 *ℤ d -ℤ v) +ℤ (v *ℤ b -ℤ y)
 split-id = all₄ _ (λ ρ. simp (quote, q-con ρ) (ring ρ _ _ tt))
 
+part : (y x : ℤ) → natAbs y ≤ natAbs (y -ℤ x) + natAbs x
+part = rep₂ _ (λ a b c d. simp sizes (omega arith))
+
+fewer : (B : ℕ) (d x : ℤ) → 0 < B → 64 * natAbs (pos 65536 *ℤ d *ℤ pos B -ℤ x) ≤ 33 * 65536 * B
+    → natAbs x ≤ (mostDegree + 1) * largest * B → natAbs d ≤ 2 ^ 28
+fewer B d x h near size =
+    let y = pos 65536 *ℤ d in
+    let all : B * (64 * (65536 * natAbs d)) ≤ B * (33 * 65536 + 64 * ((mostDegree + 1) * largest)) =
+    omega (arith, near, size, part (y *ℤ pos B) x, abs-* y (pos B), ap (λ (i : ℕ). i * B) (abs-* (pos 65536) d)) in
+    omega (arith, le-of-mul-le-mul-left {k = B} all h)
+
 -- 'v is within n/2 + weight/2^31 units of the exact sum': the theorem of the page, for a granule of
 -- any degree and length
 pub value-near : (cs : List ℤ) (place H n : ℕ) → n + 1 ≡ length cs → 0 < H → place ≤ H
@@ -111,7 +124,7 @@ module _ (cs : List ℤ) (H : ℕ) (passed : Passed cs H) (place : ℕ) (inside 
       let few = passed .few in
       let some = passed .some in
       let long = passed .long in
-      let hn : n ≤ 15 = omega arith in
+      let hn : n ≤ mostDegree = omega arith in
       omega
       (arith, value-near cs place H n (omega arith) (omega arith) inside, mul-le-mul-right (H ^ n) hn, mul-le-mul-right (H ^ n) (passed .light))
 
@@ -140,3 +153,13 @@ module _ (cs : List ℤ) (H : ℕ) (passed : Passed cs H) (place : ℕ) (inside 
         mul-le-mul-left (H ^ n) (within-half v unitsInTick (lit< tt)),
         ap (λ (i : ℕ). H ^ n * i) (abs-* (pos 2) b),
       ))
+
+  -- and so it is at most 16·2^40 units
+  pub delay-small : isSmall cs ≡ true → natAbs (delayAt cs place H) ≤ 2 ^ 28
+  unfolding exactAt
+  delay-small small =
+      let n = length cs - 1 in
+      let p = pOf place H in
+      let few = mul-le-mul-right (largest * H ^ n) (passed .few) in
+      let sum = rw (← exact-is p H cs) at (sum-small p H (p-small place H inside) 0 cs n (omega (arith, passed .some)) small) in
+      fewer (H ^ n) (delayAt cs place H) (exactSum p H cs) (pow-above H n (omega (arith, passed .long))) delay-within (omega (arith, few, sum))

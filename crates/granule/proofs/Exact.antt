@@ -2,8 +2,9 @@
 -- Σ at b| ≤ weight·R^n·|a − b|, and at the two ends of a granule, where it is the plain and the
 -- alternating sum. Each goes by the terms from c_k on, with n for the last place. Assumes nothing.
 use mathlib.Core.Path.{_≡_, sym, _∙_}
+use mathlib.Core.Bool.{true}
 use mathlib.Core.List.{List, [], _∷_}
-use Prim.Native.Nat.{ℕ, suc, _+_, _*_, _^_, _≤_}
+use Prim.Native.Nat.{ℕ, suc, _+_, _*_, _^_, _≤_, zero-le}
 use native.Mathlib.Nat.{mul-le-mul-left, le-refl}
 use native.Mathlib.Omega.{arith}
 use lib.Pow.{pow-add}
@@ -13,11 +14,12 @@ use Rattle.numbers.specs.Chebyshev.{E}
 use Rattle.numbers.proofs.Ring.{one-*}
 use Rattle.numbers.proofs.Order.{size-*, size-+}
 use Rattle.numbers.proofs.Solver.{ring, quote, q-con, all₂, all₄, all₅, all₆}
-use Rattle.numbers.proofs.Chebyshev.{pow-mul, E-scale, E-end, E-start, sign, sign-zero, sign-suc}
+use Rattle.numbers.proofs.Chebyshev.{pow-mul, E-bound, E-scale, E-end, E-start, sign, sign-zero, sign-suc}
 use Rattle.numbers.proofs.Slope.{E-moves}
 use Rattle.granule.specs.Rule.{exactFrom, exactSum}
-use Rattle.granule.specs.Tests.{weightFrom, plainSum, alternatingSum}
+use Rattle.granule.specs.Tests.{largest, isSmall, weightFrom, plainSum, alternatingSum}
 use Rattle.granule.proofs.Clauses.{exact-nil, exact-cons, exact-is, weight-cons, plain-nil, plain-cons, alternating-nil, alternating-cons}
+use Rattle.granule.proofs.Passing.{small-cons}
 
 -- ---- another denominator: G^n times
 term-id : (c w x y e s : ℤ) → c *ℤ (w *ℤ x) *ℤ (y *ℤ e) +ℤ x *ℤ y *ℤ s ≡ x *ℤ y *ℤ (c *ℤ w *ℤ e +ℤ s)
@@ -64,6 +66,21 @@ module _ (a b : ℤ) (R : ℕ) (ha : natAbs a ≤ R) (hb : natAbs b ≤ R) where
         apart-id c (pos (R ^ m)) (E a (pos R) k) (E b (pos R) k) (exactFrom a R (suc k) cs) (exactFrom b R (suc k) cs),
       )
       (bound R k (natAbs c) (natAbs x) (natAbs y) _ (weightFrom (suc k) cs) (natAbs (a -ℤ b)) (R ^ m) (R ^ k) z (E-moves a b R ha hb k) ih)
+
+-- ---- its size: every E_k is at most R^k, and every coefficient that passes test 14 at most 2^40
+module _ (p : ℤ) (R : ℕ) (h : natAbs p ≤ R) where
+  pub sum-small : (k : ℕ) (cs : List ℤ) (n : ℕ) → n + 1 ≡ k + length cs → isSmall cs ≡ true
+      → natAbs (exactFrom p R k cs) ≤ length cs * largest * R ^ n
+  sum-small k [] n e s = rw (exact-nil p R k) zero-le
+  sum-small k (c ∷ cs) n e s =
+      let m = length cs in
+      let f : n ≡ m + k = omega arith in
+      let small = small-cons c cs s in
+      let ih = rw (f, pow-add R m k) at (sum-small (suc k) cs n (omega arith) (small .1)) in
+      let cw = size-* c (pos (R ^ m)) (small .0) (le-refl (R ^ m)) in
+      let cwe = size-* (c *ℤ pos (R ^ m)) (E p (pos R) k) cw (E-bound p R k h) in
+      rw (exact-cons p R k c cs, f, pow-add R m k)
+      (omega (arith, size-+ (c *ℤ pos (R ^ m) *ℤ E p (pos R) k) (exactFrom p R (suc k) cs) cwe ih))
 
 -- ---- the two ends: s = 1, and s = −1
 end-term : (c w x s : ℤ) → c *ℤ w *ℤ x +ℤ w *ℤ x *ℤ s ≡ w *ℤ x *ℤ (c +ℤ s)

@@ -4,11 +4,12 @@ use borrow.Author.Tests.{leb-true}
 use mathlib.Core.Path.{_≡_}
 use mathlib.Core.Bool.{true}
 use mathlib.Core.List.{List, [], _∷_}
-use Prim.Native.Nat.{ℕ, zero, suc, _≤_, zero-le}
+use Prim.Native.Nat.{ℕ, zero, suc, _+_, _≤_, zero-le}
 use lib.Dec.{leb}
 use lib.IntN.{ℤ, pos, _-ℤ_, natAbs}
 use lib.ListN.{length, getD, drop}
 use Rattle.numbers.proofs.Flags.{both}
+use Rattle.granule.specs.Bounds.{mostDegree, shortestLength}
 use Rattle.granule.specs.Tests.{largest, heaviest, widest, isWithin, isSmall, isLight, isJoined, weightOf, plainSum, alternatingSum, Passed, Meeting}
 
 pub small-cons : (c : ℤ) (cs : List ℤ) → isSmall (c ∷ cs) ≡ true → (natAbs c ≤ largest) × (isSmall cs ≡ true)
@@ -34,8 +35,8 @@ unfolding isJoined
 joined-near plain alternating e = leb-true (natAbs (plain -ℤ alternating)) widest e
 
 -- a granule, and a join, of which the tests have been passed
-pub passed-of : (cs : List ℤ) (H : ℕ) → 1 ≤ length cs → length cs ≤ 16 → 1000000000 ≤ H → isLight (weightOf cs) H ≡ true
-    → Passed cs H
+pub passed-of : (cs : List ℤ) (H : ℕ) → 1 ≤ length cs → length cs ≤ mostDegree + 1 → shortestLength ≤ H
+    → isLight (weightOf cs) H ≡ true → Passed cs H
 passed-of cs H some few long e = let b = light-both (weightOf cs) H e in record { some = some; few = few; long = long; light = b .0; slow = b .1 }
 
 pub meeting-of : (cs next : List ℤ) → length cs ≡ length next → isJoined (plainSum cs) (alternatingSum next) ≡ true

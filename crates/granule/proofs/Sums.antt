@@ -12,6 +12,7 @@ use mir.Syntax.{w64}
 use mir.Val.{SFits}
 use Rattle.numbers.proofs.Order.{abs-neg, abs-+}
 use Rattle.numbers.proofs.Machine.{fits, read, read-is}
+use Rattle.granule.specs.Bounds.{mostDegree}
 use Rattle.granule.specs.Tests.{largest, isSmall, weightFrom, plainSum, alternatingSum}
 use Rattle.granule.specs.Asked.{Summable}
 use Rattle.granule.proofs.Clauses.{weight-nil, weight-cons, plain-nil, plain-cons, alternating-nil, alternating-cons}
@@ -41,7 +42,7 @@ module _ (sum : List ℤ → ℤ) (op : ℤ → ℤ → ℤ) (joins : Joins sum 
   sum-fits : (cs : List ℤ) (k : ℕ) → Summable cs → SFits w64 (sum (drop k cs))
   sum-fits cs k s =
       let few = s .few in
-      let l : length (drop k cs) ≤ 16 = simp length-drop (omega arith) in
+      let l : length (drop k cs) ≤ mostDegree + 1 = simp length-drop (omega arith) in
       fits (sum (drop k cs)) (omega (arith, sum-small (drop k cs) (small-drop cs k (s .small))))
 
   -- past the last coefficient, and over the turn that comes to c_(k−1), in the words of the code
@@ -61,12 +62,16 @@ module _ (sum : List ℤ → ℤ) (op : ℤ → ℤ → ℤ) (joins : Joins sum 
       (rw turn fit, rw turn (read-is _ fit))
 
 -- ---- the weight
--- the term of the weight at k, and the weight from c_k on
-pub term-small : (k x : ℕ) → k ≤ 15 → x ≤ largest → (k * k ≤ 225) × (k * k * x ≤ 225 * largest)
-term-small k x h l = let s = mul-le-mul {n₂ = 15} {m₂ = 15} h h in (s, mul-le-mul {n₂ = 225} {m₂ = largest} s l)
+-- the most that k² is
+abbrev pub mostSquare : ℕ
+mostSquare = mostDegree * mostDegree
 
-weight-small : (k : ℕ) (cs : List ℤ) → isSmall cs ≡ true → k + length cs ≤ 16
-    → weightFrom k cs ≤ length cs * (225 * largest)
+-- the term of the weight at k, and the weight from c_k on
+pub term-small : (k x : ℕ) → k ≤ mostDegree → x ≤ largest → (k * k ≤ mostSquare) × (k * k * x ≤ mostSquare * largest)
+term-small k x h l = let s = mul-le-mul {n₂ = mostDegree} {m₂ = mostDegree} h h in (s, mul-le-mul {n₂ = mostSquare} {m₂ = largest} s l)
+
+weight-small : (k : ℕ) (cs : List ℤ) → isSmall cs ≡ true → k + length cs ≤ mostDegree + 1
+    → weightFrom k cs ≤ length cs * (mostSquare * largest)
 weight-small k [] e h = rw (weight-nil k) (omega arith)
 weight-small k (c ∷ cs) e h =
     let s = small-cons c cs e in

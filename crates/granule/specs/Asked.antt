@@ -3,16 +3,17 @@
 use mathlib.Core.Path.{_≡_}
 use mathlib.Core.Bool.{true}
 use mathlib.Core.List.{List}
-use Prim.Native.Nat.{ℕ, _^_, _≤_}
+use Prim.Native.Nat.{ℕ, _+_, _^_, _≤_}
 use lib.IntN.{ℤ, natAbs}
 use lib.ListN.{length}
+use Rattle.granule.specs.Bounds.{mostDegree, shortestLength, longestLength}
 use Rattle.granule.specs.Rule.{scale}
 use Rattle.granule.specs.Tests.{largest, isSmall}
 
--- 'H from 10^9 to 2^50', and a place of the granule
+-- H within its bounds, and a place of the granule
 pub record InGranule (place H : ℕ) : Type 0 where
-  pub long : 1000000000 ≤ H
-  pub short : H ≤ 2 ^ 50
+  pub long : shortestLength ≤ H
+  pub short : H ≤ longestLength
   pub inside : place ≤ H
 
 -- the factors of a rounded product: u is 2^30·s with s from −1 to 1, and no b_k of coefficients up
@@ -27,9 +28,9 @@ pub record Terms (u c b₁ b₂ : ℤ) : Type 0 where
   pub coefficient : natAbs c ≤ largest
   pub bounded : natAbs b₂ ≤ 2 ^ 60
 
--- 'n 0..15', so at most 16 coefficients, of which test 14 has let each pass
+-- c_0..c_n with n within its bound, of which test 14 has let each pass
 pub record Summable (cs : List ℤ) : Type 0 where
-  pub few : length cs ≤ 16
+  pub few : length cs ≤ mostDegree + 1
   pub small : isSmall cs ≡ true
 
 -- a granule's coefficients, at least c_0, and a place in it

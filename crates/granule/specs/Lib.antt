@@ -1,3 +1,4 @@
+pub mod Bounds
 pub mod Rule
 pub mod Tests
 pub mod Asked

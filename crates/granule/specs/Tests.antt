@@ -7,6 +7,7 @@ use Prim.Native.Nat.{ℕ, suc, _+_, _*_, _^_, _≤_}
 use lib.Dec.{leb}
 use lib.IntN.{ℤ, pos, natAbs, _+ℤ_, _-ℤ_}
 use lib.ListN.{length}
+use Rattle.granule.specs.Bounds.{mostDegree, shortestLength}
 
 -- ---- the sums
 -- k²·|c_k| from c_k on
@@ -56,11 +57,11 @@ unfoldable pub isJoined : ℤ → ℤ → Bool
 isJoined plain alternating = leb (natAbs (plain -ℤ alternating)) widest
 
 -- ---- what the tests leave
--- what the theorems ask of a granule: 'n 0..15, H from 10^9', and test 15
+-- what the theorems ask of a granule: n within its bound, H not below its own, and test 15
 pub record Passed (cs : List ℤ) (H : ℕ) : Type 0 where
   pub some : 1 ≤ length cs
-  pub few : length cs ≤ 16
-  pub long : 1000000000 ≤ H
+  pub few : length cs ≤ mostDegree + 1
+  pub long : shortestLength ≤ H
   pub light : weightOf cs ≤ heaviest
   pub slow : weightOf cs ≤ H
 

@@ -10,7 +10,7 @@ use native.Mathlib.Omega.{arith}
 use borrow.Author.Tests.{eq-eqb, ne-eqb, lt-ltb, le-ltb}
 use lib.Dec.{ltb, eqb}
 use lib.IntN.{ℤ, natAbs}
-use Rattle.granule.specs.Tests.{isSmall, weightOf, isLight, plainSum, alternatingSum, isJoined}
+use Rattle.granule.specs.Tests.{isSmall, plainSum, alternatingSum, isJoined}
 use Rattle.image.specs.declared.table.Table.{Table}
 use Rattle.numbers.specs.Tests.{over, rule, rank}
 use Rattle.numbers.proofs.Verdicts.{Best, best-none, best-lower, best-still, best-first, rank-later, rank-more, by-rank}
@@ -25,12 +25,12 @@ use Rattle.granules.proofs.Alike.{Alike, alike-weight}
 
 -- ---- the rank of one granule
 -- by itself: alike coefficients have one
-own-same : (H : ℕ) {c d : List ℤ} → Alike c d → rank (ownRules H) c ≡ rank (ownRules H) d
+pub own-same : (H : ℕ) {c d : List ℤ} → Alike c d → rank (ownRules H) c ≡ rank (ownRules H) d
 unfolding rank
 own-same H a = rw (a .small, alike-weight a)
 
 pub own-small : (H : ℕ) (c : List ℤ) → (rank (ownRules H) c ≡ 0 → ⊥) → isSmall c ≡ true
-own-small H c n = rank-later (rule 14 isSmall) (rule 15 (λ (d : List ℤ). isLight (weightOf d) H) ∷ []) c (above n) .0
+own-small H c n = rank-later _ _ c (above n) .0
   where
     above : {m : ℕ} → (m ≡ 0 → ⊥) → 0 < m
     above n = omega arith

@@ -13,6 +13,15 @@ use Rattle.granules.specs.Tests.{granuleTests}
 abbrev pub testedRefused : ℕ → ℕ → Tested
 testedRefused number place = Refused (record { number = number; place = place })
 
+-- and an answer in the page's numbers: 0 where every test passes
+unfoldable pub testedNumber : Tested → ℕ
+testedNumber Passed = 0
+testedNumber (Refused refusal) = refusal .number
+
+unfoldable pub testedPlace : Tested → ℕ
+testedPlace Passed = 0
+testedPlace (Refused refusal) = refusal .place
+
 abbrev pub testedBy : List Test → Tested
 testedBy tests = verdict testedRefused Passed tests
 

@@ -7,9 +7,9 @@ use lib.Dec.{ltb, eqb}
 use lib.IntN.{ℤ}
 use lib.ListN.{length}
 use Rattle.numbers.specs.Tests.{rank, told}
+use Rattle.granule.specs.Bounds.{mostDegree}
 use Rattle.granule.specs.Tests.{plainSum, alternatingSum, isJoined}
 use Rattle.words.specs.Words.{block}
-use Rattle.form.specs.Few.{mostDegree}
 use Rattle.form.specs.Form.{blocksOf, isFormed}
 use Rattle.image.specs.declared.table.Table.{Table}
 use Rattle.image.specs.Bounds.{Bounded}

@@ -20,11 +20,13 @@ ghost use Rattle.granules.specs.Tests.{ownRules};
 ghost use Rattle.granules.specs.Answers.{testedStored, testedListed};
 ghost use Rattle.granules.specs.Pass.{joinedRank, scanNext, Short, Formed, RankTold};
 
-// The ranks of test 16, and of a granule that fails none: those of the tests of a granule by itself
-// come before.
-const JOIN: usize = 2;
+// The numbers of the tests, in the order of their ranks: those of a granule by itself, then 16.
+const NUMBERS: [u32; 3] = [14, 15, 16];
 
-const NONE: usize = 3;
+// The ranks of a granule that fails none, and of 16.
+const NONE: usize = NUMBERS.len();
+
+const JOIN: usize = NONE - 1;
 
 // What the tests of the coefficients tell.
 pub enum Tested {
@@ -106,16 +108,10 @@ fn look_at(scan: Scan, g: usize, coefficients: &[i64], length: u64) -> Next
 fn told(rank: usize, place: usize) -> Tested
     ensures { λ r. ⌜ RankTold rank place r ⌝ }
 {
-    if JOIN < rank {
+    if NONE <= rank {
         return Tested::Passed;
     }
-    let number = if rank == 0 {
-        14
-    } else if rank == 1 {
-        15
-    } else {
-        16
-    };
+    let number = NUMBERS[rank];
     Tested::Refused(Refusal {
         number,
         place: place as u64,

@@ -17,7 +17,7 @@ use mir.ValLaws.{toZ-ofZ, ofZ-fits}
 use Rattle.image.specs.declared.table.Table.{Table}
 use Rattle.words.specs.Words.{byteOf, quadAt, wordAt, block}
 use Rattle.words.specs.Check.{sumA, sumB, checkA, checkB, isChecked}
-use Rattle.form.specs.Few.{mostDegree}
+use Rattle.granule.specs.Bounds.{mostDegree}
 use Rattle.form.specs.Form.{granuleAt, whichAt, isNumber, isCoefficient, isFree, fixedByte, isRight, isFormed, blocksOf}
 use Rattle.image.specs.Image.{bitsOf, numberByte, coefficientByte, bodyByte, blockByte, imageByte, imageOf, tableOf}
 use Rattle.image.specs.Image.{storedAt, coefficientAt, storedOf, granuleIn, granuleStored, coefficientsStored}

@@ -15,9 +15,10 @@ use Rattle.numbers.proofs.Machine.{fits, lt-yes, lt-no, le-yes, yes-le, no-le}
 use Rattle.scales.specs.Tick.{furthest, isValid}
 use Rattle.scales.proofs.Range.{valid-size}
 use Rattle.numbers.proofs.Flags.{both}
-use Rattle.form.specs.Few.{mostDegree, mostGranules}
+use Rattle.granule.specs.Bounds.{mostDegree, shortestLength, longestLength}
+use Rattle.form.specs.Few.{mostGranules}
 use Rattle.image.specs.declared.table.Table.{Table}
-use Rattle.image.specs.Bounds.{shortestLength, longestLength, endOf, isBounded, Bounded}
+use Rattle.image.specs.Bounds.{endOf, isBounded, Bounded}
 
 -- ---- a number between two naturals
 natural-from : (z : ℤ) (m : ℕ) → pos m ≤ℤ z → z ≡ pos (natAbs z)

@@ -3,17 +3,15 @@ use mathlib.Core.Path.{_≡_}
 use Prim.Native.Nat.{ℕ, _+_, _*_, _/_, _%_, _≤_, _<_}
 use native.Mathlib.Nat.{mul-le-mul-right, mul-le-mul, div-lt-iff-lt-mul, mod-lt}
 use native.Mathlib.Omega.{arith}
-use Rattle.form.specs.Few.{mostDegree, mostGranules, Few}
+use Rattle.granule.specs.Bounds.{mostDegree}
+use Rattle.form.specs.Few.{mostGranules, Few}
 use Rattle.form.specs.Form.{blocksOf}
+use Rattle.image.specs.Bounds.{mostCoefficients}
 use Rattle.image.specs.Image.{storedAt}
 
 -- ---- the place in the list
 pub index : (G n g m : ℕ) → g < G → m ≤ n → g * (n + 1) + m < G * (n + 1)
 index G n g m h k = omega (arith, mul-le-mul-right {m = g + 1} {n = G} (n + 1) (omega arith))
-
--- the most coefficients that a table has
-abbrev pub mostCoefficients : ℕ
-mostCoefficients = mostGranules * (mostDegree + 1)
 
 pub room : (G n : ℕ) → Few G n → G * (n + 1) ≤ mostCoefficients
 room G n f = mul-le-mul {n₂ = mostGranules} {m₂ = mostDegree + 1} (f .granules) (omega (arith, f .degree))

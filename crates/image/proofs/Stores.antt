@@ -16,9 +16,7 @@ use Rattle.words.specs.Check.{checkA, checkB}
 use Rattle.image.specs.Image.{bodyByte, blockByte, imageByte}
 use Rattle.image.specs.Asked.{Stores, Sealed}
 use Rattle.words.proofs.Sums.{checkA-same, checkB-same}
-
-pub not-same : {a b : ℕ} → a < b → a ≡ b → ⊥
-not-same h e = omega arith
+use Rattle.numbers.proofs.Places.{not-same}
 
 pub put-none : (f : ℕ → ℕ) (at : ℕ) (b : List ℕ) → Stores f at 0 b b
 put-none f at b = record { long = refl; below = λ i h. refl; each = λ j h. absurd (not-suc-le-zero h) }

@@ -1,20 +1,19 @@
--- 'Bounds: n 0..15, H from 10^9 to 2^50, G 1..360, S and S+GH valid epochs.' How large n and G may
--- be stands in `Few`.
+-- 'Bounds: n 0..15, H from 10^9 to 2^50, G 1..360, S and S+GH valid epochs.' The numbers of n and H
+-- are the granule's, that of G stands in `Few`.
 use mathlib.Core.Path.{_≡_}
 use mathlib.Core.Bool.{Bool, true, _&&_}
-use Prim.Native.Nat.{ℕ, _^_, _≤_}
+use Prim.Native.Nat.{ℕ, _+_, _*_, _≤_}
 use lib.Dec.{leb}
 use lib.IntN.{ℤ, pos, _+ℤ_, _*ℤ_}
 use lib.Signed.{_≤ℤ_, leZ}
 use Rattle.scales.specs.Tick.{isValid}
-use Rattle.form.specs.Few.{mostDegree, mostGranules, Few}
+use Rattle.granule.specs.Bounds.{mostDegree, shortestLength, longestLength}
+use Rattle.form.specs.Few.{mostGranules, Few}
 use Rattle.image.specs.declared.table.Table.{Table}
 
-abbrev pub shortestLength : ℕ
-shortestLength = 10 ^ 9
-
-abbrev pub longestLength : ℕ
-longestLength = 2 ^ 50
+-- the most coefficients that a table has
+abbrev pub mostCoefficients : ℕ
+mostCoefficients = mostGranules * (mostDegree + 1)
 
 -- S+GH
 abbrev pub endOf : Table → ℤ

@@ -10,7 +10,7 @@ ghost use mathlib.Core.Bool.{true};
 ghost use Prim.Native.Nat.{_+_, _*_, _≤_, _<_};
 ghost use lib.ListN.{length};
 ghost use Rattle.form.specs.Form.{blocksOf, isNumber};
-ghost use Rattle.form.specs.Few.{mostDegree};
+ghost use Rattle.granule.specs.Bounds.{mostDegree};
 ghost use Rattle.image.specs.Image.{bitsOf, numberByte, coefficientByte, bodyByte};
 ghost use Rattle.image.specs.Image.{blockByte, imageOf};
 ghost use Rattle.image.specs.Asked.{Holding, WholeTable, Fitting, Stores, Sealed};

@@ -1,5 +1,5 @@
 -- A line's number as a code: those that fit are handed on, and the desk refuses every other, and
--- each that is above 6, with 1. Assumes nothing.
+-- each that is above the highest code, with 1. Assumes nothing.
 use borrow.Author.Tests.{lt-ltb, le-ltb, lt-leb}
 use mathlib.Core.Path.{_≡_, refl, ap}
 use mathlib.Core.Logic.{_⊎_, inl, inr}
@@ -11,7 +11,7 @@ use lib.IntN.{ℤ, pos, negsuc}
 use lib.Signed.{_<ℤ_, clashℤ}
 use Rattle.numbers.proofs.Order.{le-pos}
 use Rattle.scales.specs.declared.scale.Purpose.the-variants as P
-use Rattle.scales.specs.Scales.{scaleOf}
+use Rattle.scales.specs.Scales.{highestCode, scaleOf}
 use Rattle.scales.specs.declared.scale.Named.the-variants.{Refused}
 use Rattle.line.specs.Lines.{codeOf, noCode}
 
@@ -26,19 +26,21 @@ pub code-above : (z : ℤ) → pos 4294967294 <ℤ z → codeOf z ≡ noCode
 code-above (pos n) h = rw (le-ltb n noCode (ltb→lt 4294967294 n (h .lt)))
 code-above (negsuc n) h = refl
 
--- a number above 6 stays above 6
-six-below : (n : ℕ) → 6 < n → 6 < codeOf (pos n)
-six-below n h = elim (decLt n noCode) [
+-- a number above the highest code stays above it
+stays-above : (n : ℕ) → highestCode P.Line < n → highestCode P.Line < codeOf (pos n)
+stays-above n h = elim (decLt n noCode) [
   | yes l ↦ rw (lt-ltb n noCode l) h
   | no l ↦ rw (le-ltb n noCode (omega (arith, l))) (omega arith)
 ]
 
-refused-six : (code place : ℕ) → 6 < code → scaleOf P.Line code place ≡ Refused (record { number = 1; place = place })
-refused-six code place h = rw (lt-leb code 6 h)
+refused-above : (code place : ℕ) → highestCode P.Line < code
+    → scaleOf P.Line code place ≡ Refused (record { number = 1; place = place })
+refused-above code place h = rw (lt-leb code (highestCode P.Line) h)
 
 -- 'A code outside 0..6 is refusal 1'
-pub refused-outside : (z : ℤ) (place : ℕ) → (z <ℤ pos 0) ⊎ (pos 6 <ℤ z)
+pub refused-outside : (z : ℤ) (place : ℕ) → (z <ℤ pos 0) ⊎ (pos (highestCode P.Line) <ℤ z)
     → scaleOf P.Line (codeOf z) place ≡ Refused (record { number = 1; place = place })
 refused-outside z place (inl below) = ap (λ (n : ℕ). scaleOf P.Line n place) (code-below z below)
-refused-outside (pos n) place (inr above) = refused-six (codeOf (pos n)) place (six-below n (ltb→lt 6 n (above .lt)))
+refused-outside (pos n) place (inr above) =
+    refused-above (codeOf (pos n)) place (stays-above n (ltb→lt (highestCode P.Line) n (above .lt)))
 refused-outside (negsuc n) place (inr above) = refl

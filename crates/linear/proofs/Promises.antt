@@ -3,10 +3,12 @@
 -- mere shift comes back exactly. Assumes nothing.
 use mathlib.Core.Path.{_≡_, refl, sym, _∙_, ap, subst}
 use mathlib.Core.Bool.{Bool, true, false, cond}
+use mathlib.Core.List.{map}
 use Prim.Native.Nat.{ℕ, _+_, _*_, _≤_, _<_}
 use native.Mathlib.Omega.{arith}
 use native.Mathlib.Nat.{mul-le-mul-left}
-use lib.Dec.{lit<}
+use borrow.Author.Tests.{ltb-true}
+use lib.Dec.{ltb}
 use lib.IntN.{ℤ, pos, negℤ, negℤ-negℤ, natAbs, _+ℤ_, _-ℤ_, _*ℤ_}
 use lib.Signed.{_≤ℤ_}
 use Rattle.numbers.proofs.Differences.{rep₂, rep₃, rep₄, lin}
@@ -15,12 +17,12 @@ use Rattle.numbers.proofs.Rounding.{nearest-order, within-half}
 use Rattle.scales.specs.declared.answer.Epoch.{Epoch}
 use Rattle.scales.specs.declared.answer.Stepped.the-variants.{Reached, OutsideTable, OutsideRange}
 use Rattle.scales.specs.declared.path.Line.{Line}
-use Rattle.scales.specs.declared.path.Line.the-variants.{GpsTai, TaiTt, TcgTt, TcbTdb}
 use Rattle.scales.specs.declared.scale.Scale.{Scale}
 use Rattle.scales.specs.Answers.{keptIn}
 use Rattle.scales.specs.Linear.{Linear, inverse, exact, nearestTick}
 use Rattle.scales.specs.Rows.{LineRow, lineRow, turned, lineStep}
 use Rattle.scales.specs.Tick.{isValid}
+use Rattle.scales.proofs.Every.{lines, every-line}
 use Rattle.scales.proofs.Reached.{out-of-range, same-tick, kept-reached, valid-kept, kept-inside}
 use Rattle.linear.proofs.Fractions.{shifted}
 
@@ -32,12 +34,18 @@ pub record Proper (s : Linear) : Type 0 where
   pub notSlow : s .over < 3 * s .times
   pub notFast : s .times < 3 * s .over
 
--- the four lines
+-- every line
+less : (f g : Line → ℕ) → map (λ line. ltb (f line) (g line)) lines ≡ map (λ line. true) lines → (line : Line)
+    → f line < g line
+less f g all line = ltb-true (f line) (g line) (every-line (λ line. ltb (f line) (g line)) (λ line. true) all line)
+
 pub proper : (line : Line) → Proper (lineRow line .by)
-proper GpsTai = record { timesAbove = lit< tt; overAbove = lit< tt; notSlow = lit< tt; notFast = lit< tt }
-proper TaiTt = record { timesAbove = lit< tt; overAbove = lit< tt; notSlow = lit< tt; notFast = lit< tt }
-proper TcgTt = record { timesAbove = lit< tt; overAbove = lit< tt; notSlow = lit< tt; notFast = lit< tt }
-proper TcbTdb = record { timesAbove = lit< tt; overAbove = lit< tt; notSlow = lit< tt; notFast = lit< tt }
+proper line = record {
+  timesAbove = less (λ line. 0) (λ line. lineRow line .by .times) refl line;
+  overAbove = less (λ line. 0) (λ line. lineRow line .by .over) refl line;
+  notSlow = less (λ line. lineRow line .by .over) (λ line. 3 * lineRow line .by .times) refl line;
+  notFast = less (λ line. lineRow line .by .times) (λ line. 3 * lineRow line .by .over) refl line;
+}
 
 -- and their inverses
 pub proper-inverse : (s : Linear) → Proper s → Proper (inverse s)

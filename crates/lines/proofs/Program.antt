@@ -31,7 +31,7 @@ use Rattle.line.specs.Numbers.{numberIn}
 use Rattle.line.specs.Lines.{fields, threeNumbers, lineRead}
 use Rattle.printing.specs.Texts.{lineText}
 use Rattle.line.proofs.Cases.{either}
-use Rattle.lines.specs.Output.{linesOf, answerTo, printedFor, printedLines, outputOf, ticklineOf, outputInPieces, joinedPieces}
+use Rattle.lines.specs.Output.{linesRead, printedFor, printedLines, outputFrom, ticklineOf, outputInPieces, joinedPieces}
 use Rattle.lines.proofs.Pieces.{in-pieces}
 
 -- ---- a table that was refused has no use for coefficients
@@ -52,50 +52,53 @@ module _ (refusal : Refusal) (one other : List ℤ) where
       ∙ asked-any asked read
       ∙ by-asked P.Line from to reading (J.Refused refusal) other asked read refl refl
 
-  line-any : (line : Line) → answerTo (J.Refused refusal) one line ≡ answerTo (J.Refused refusal) other line
+  line-any : (line : Line) → printedFor (J.Refused refusal) one line ≡ printedFor (J.Refused refusal) other line
+  unfolding printedFor
   line-any (Numbers from to tick) = ap (lineText to) (converted-any _ _ _)
   line-any (Refused r) = refl
 
-  lines-any : (lines : List (List ℕ))
+  lines-any : (lines : List Line)
       → printedLines (J.Refused refusal) one lines ≡ printedLines (J.Refused refusal) other lines
-  unfolding printedLines printedFor
+  unfolding printedLines
   lines-any [] = refl
-  lines-any (line ∷ more) = rw (line-any (lineRead line 1), lines-any more)
+  lines-any (line ∷ more) = rw (line-any line, lines-any more)
 
-  output-any : (input : List ℕ) → outputOf (J.Refused refusal) one input ≡ outputOf (J.Refused refusal) other input
-  unfolding outputOf
-  output-any input = lines-any (linesOf input)
+  output-any : (input : List ℕ)
+      → outputFrom 1 (J.Refused refusal) one input ≡ outputFrom 1 (J.Refused refusal) other input
+  unfolding outputFrom
+  output-any input = lines-any (linesRead input)
 
 -- ---- the program
 module _ (bytes : List ℕ) (pieces : List (List ℕ)) where
   pub over-accepted : (table : Table) → judged bytes ≡ J.Accepted table
-      → outputInPieces (J.Accepted table) (coefficientsStored bytes (table .count) (table .degree)) [] pieces
+      → outputInPieces 1 (J.Accepted table) (coefficientsStored bytes (table .count) (table .degree)) [] pieces
       ≡ ticklineOf bytes (joinedPieces pieces)
-  unfolding ticklineOf
-  over-accepted table e = in-pieces (J.Accepted table) _ [] pieces ∙ rw (e, coefficients-are bytes table e)
+  unfolding ticklineOf outputFrom
+  over-accepted table e = in-pieces (J.Accepted table) _ 1 [] pieces ∙ rw (e, coefficients-are bytes table e)
 
   pub over-refused : (refusal : Refusal) → judged bytes ≡ J.Refused refusal
-      → outputInPieces (J.Refused refusal) [] [] pieces ≡ ticklineOf bytes (joinedPieces pieces)
-  unfolding ticklineOf
-  over-refused refusal e = in-pieces (J.Refused refusal) [] [] pieces ∙ rw e (output-any refusal [] (coefficientsIn bytes) (joinedPieces pieces))
+      → outputInPieces 1 (J.Refused refusal) [] [] pieces ≡ ticklineOf bytes (joinedPieces pieces)
+  unfolding ticklineOf outputFrom
+  over-refused refusal e = in-pieces (J.Refused refusal) [] 1 [] pieces ∙ rw e (output-any refusal [] (coefficientsIn bytes) (joinedPieces pieces))
 
 -- ---- a line's number is not printed
-module _ (table : Judged) (coefficients : List ℤ) where
-  numbers-any : (numbers : List (Option ℤ)) (one other : ℕ)
-      → answerTo table coefficients (threeNumbers numbers one)
-      ≡ answerTo table coefficients (threeNumbers numbers other)
-  numbers-any [] one other = refl
-  numbers-any (none ∷ more) one other = refl
-  numbers-any (some from ∷ []) one other = refl
-  numbers-any (some from ∷ none ∷ more) one other = refl
-  numbers-any (some from ∷ some to ∷ []) one other = refl
-  numbers-any (some from ∷ some to ∷ none ∷ more) one other = refl
-  numbers-any (some from ∷ some to ∷ some tick ∷ []) one other = refl
-  numbers-any (some from ∷ some to ∷ some tick ∷ extra ∷ more) one other = refl
+module _ (table : Judged) (coefficients : List ℤ) (one other : ℕ) where
+  numbers-any : (numbers : List (Option ℤ))
+      → printedFor table coefficients (threeNumbers numbers one)
+      ≡ printedFor table coefficients (threeNumbers numbers other)
+  unfolding printedFor
+  numbers-any [] = refl
+  numbers-any (none ∷ more) = refl
+  numbers-any (some from ∷ []) = refl
+  numbers-any (some from ∷ none ∷ more) = refl
+  numbers-any (some from ∷ some to ∷ []) = refl
+  numbers-any (some from ∷ some to ∷ none ∷ more) = refl
+  numbers-any (some from ∷ some to ∷ some tick ∷ []) = refl
+  numbers-any (some from ∷ some to ∷ some tick ∷ extra ∷ more) = refl
 
-  pub number-not-printed : (line : List ℕ) (number : ℕ)
-      → answerTo table coefficients (lineRead line number) ≡ printedFor table coefficients line
+  pub number-not-printed : (text : List ℕ)
+      → printedFor table coefficients (lineRead text one) ≡ printedFor table coefficients (lineRead text other)
   unfolding lineRead printedFor
-  number-not-printed line number = either (leb (length line) 64)
-      (λ (e : leb (length line) 64 ≡ true). rw e (numbers-any (map numberIn (fields line)) number 1))
-      (λ (e : leb (length line) 64 ≡ false). rw e)
+  number-not-printed text = either (leb (length text) 64)
+      (λ (e : leb (length text) 64 ≡ true). rw e (numbers-any (map numberIn (fields text))))
+      (λ (e : leb (length text) 64 ≡ false). rw e)

@@ -9,36 +9,52 @@ use line::reading::Line;
 use line::reading::code_of;
 use line::reading::read_line;
 use printing::writing::write_line;
-use printing::writing::write_refused;
+use scales::answer::Answer;
 use scales::scale::Purpose;
+ghost use mathlib.Core.Path.{_≡_};
 ghost use lib.ListN.{take, drop};
+ghost use Rattle.opened.specs.Opened.{Lent};
+ghost use Rattle.line.specs.Lines.{lineRead};
 ghost use Rattle.printing.specs.Buffers.{TextPut};
-ghost use Rattle.lines.specs.Output.{outputOf};
+ghost use Rattle.lines.specs.Output.{nextLine, answeredTo, outputFrom};
 ghost use Rattle.lines.specs.Buffers.{Answering, Printed, Unfinished, LinesReady};
 ghost use Rattle.lines.specs.Buffers.{LinesAnswered};
 ghost use Rattle.lines.specs.Buffers.{Moving, TextFilled, Fed};
 
-// A place in the text and one in the output.
+// How far an input is answered: a place in the text and one in the output, and the number of the
+// line that comes next, from 1.
 pub struct Places {
     pub text: usize,
     pub out: usize,
+    pub line: u64,
 }
 
-// Puts the line that answers a line of text, given without its newline. The line's number, refusal
-// 9's place, is not printed: each is read as the first.
-fn answer_line(
-    text: &[u8],
-    judged: Judged,
-    coefficients: &[i64],
-    out: &mut [u8],
-    at: usize,
-) -> usize
-    requires { ⌜ Answering judged (now coefficients) (now out) at ⌝ }
-    ensures { λ r. ⌜
-        Printed (now (text .entry)) judged (now (coefficients .entry)) (now (out .entry)) at
-        (now (out .exit)) r ⌝ }
+// The code that a line asks for, and what it is answered with. A line that is not understood asks
+// for none, and none is printed for it.
+struct Answered {
+    to: i64,
+    answer: Answer,
+}
+
+// The number of the line after another. A place has 64 bits: the greatest is the number of each
+// line that has no lesser one.
+fn next_line(line: u64) -> u64
+    ensures { λ r. ⌜ r ≡ nextLine line ⌝ }
 {
-    match read_line(text, 1) {
+    if line < u64::MAX {
+        return line + 1;
+    }
+    line
+}
+
+// What a line of text, given without its newline, is answered with. `line` is its number from 1,
+// the place of refusal 9.
+fn answer_to(text: &[u8], line: u64, judged: Judged, coefficients: &[i64]) -> Answered
+    requires { ⌜ Lent judged (now coefficients) ⌝ }
+    ensures { λ r. ⌜
+        r ≡ answeredTo judged (now (coefficients .entry)) (lineRead (now (text .entry)) line) ⌝ }
+{
+    match read_line(text, line) {
         Line::Numbers(from, to, tick) => {
             let reading = Reading::Ticks(tick);
             let answer = convert_judged(
@@ -49,26 +65,56 @@ fn answer_line(
                 judged,
                 coefficients,
             );
-            write_line(out, at, to, answer)
+            Answered { to, answer }
         }
-        Line::Refused(refusal) => write_refused(out, at, refusal.number),
+        Line::Refused(refusal) => Answered {
+            to: 0,
+            answer: Answer::Refused(refusal),
+        },
     }
 }
 
+// Puts the line that answers a line of text.
+fn answer_line(
+    text: &[u8],
+    line: u64,
+    judged: Judged,
+    coefficients: &[i64],
+    out: &mut [u8],
+    at: usize,
+) -> usize
+    requires { ⌜ Answering judged (now coefficients) (now out) at ⌝ }
+    ensures { λ r. ⌜
+        Printed (now (text .entry)) line judged (now (coefficients .entry)) (now (out .entry)) at
+        (now (out .exit)) r ⌝ }
+{
+    let answered = answer_to(text, line, judged, coefficients);
+    let answer = answered.answer;
+    write_line(out, at, answered.to, answer)
+}
+
 // Answers the whole lines of a text, from the front of `out` on: where the unfinished line begins,
-// and where the output ends.
-fn answer_whole(text: &[u8], judged: Judged, coefficients: &[i64], out: &mut [u8]) -> Places
+// where the output ends, and the unfinished line's number. `first` is the first line's.
+fn answer_whole(
+    text: &[u8],
+    first: u64,
+    judged: Judged,
+    coefficients: &[i64],
+    out: &mut [u8],
+) -> Places
     requires { ⌜ LinesReady (now text) judged (now coefficients) (now out) ⌝ }
     ensures { λ r. ⌜
-        LinesAnswered (now (text .entry)) judged (now (coefficients .entry)) (now (out .entry))
-        (now (out .exit)) r ⌝ }
+        LinesAnswered (now (text .entry)) first judged (now (coefficients .entry))
+        (now (out .entry)) (now (out .exit)) r ⌝ }
 {
     let mut start = 0;
     let mut end = 0;
+    let mut line = first;
     let mut i = 0;
     while i < text.len() {
         if text[i] == b'\n' {
-            end = answer_line(&text[start..i], judged, coefficients, out, end);
+            end = answer_line(&text[start..i], line, judged, coefficients, out, end);
+            line = next_line(line);
             start = i + 1;
         }
         i += 1;
@@ -76,6 +122,7 @@ fn answer_whole(text: &[u8], judged: Judged, coefficients: &[i64], out: &mut [u8
     Places {
         text: start,
         out: end,
+        line,
     }
 }
 
@@ -99,37 +146,47 @@ fn keep(text: &mut [u8], start: usize, end: usize) -> usize
 }
 
 // Answers the whole lines of the text's first `filled` bytes, and keeps the start of the unfinished
-// one at the front of the text: how much of it is kept, and where the output ends.
+// one at the front of the text: how much of it is kept, where the output ends, and the unfinished
+// line's number. `first` is the first line's, counted from 1 over the whole input.
 pub fn feed(
     text: &mut [u8],
     filled: usize,
+    first: u64,
     judged: Judged,
     coefficients: &[i64],
     out: &mut [u8],
 ) -> Places
-    requires { ⌜ TextFilled (now text) filled judged (now coefficients) (now out) ⌝ }
+    requires { ⌜ TextFilled (now text) filled first judged (now coefficients) (now out) ⌝ }
     ensures { λ r. ⌜
-        Fed (now (text .entry)) filled judged (now (coefficients .entry)) (now (out .entry))
+        Fed (now (text .entry)) filled first judged (now (coefficients .entry)) (now (out .entry))
         (now (text .exit)) (now (out .exit)) r ⌝ }
 {
-    let whole = answer_whole(&text[..filled], judged, coefficients, out);
+    let whole = answer_whole(&text[..filled], first, judged, coefficients, out);
     let kept = keep(text, whole.text, filled);
     Places {
         text: kept,
         out: whole.out,
+        line: whole.line,
     }
 }
 
 // Answers the last line, which has no newline, if there is any of it: 'the last newline may be
-// missing'.
-pub fn answer_last(text: &[u8], judged: Judged, coefficients: &[i64], out: &mut [u8]) -> usize
-    requires { ⌜ Unfinished (now text) judged (now coefficients) (now out) ⌝ }
+// missing'. `line` is its number.
+pub fn answer_last(
+    text: &[u8],
+    line: u64,
+    judged: Judged,
+    coefficients: &[i64],
+    out: &mut [u8],
+) -> usize
+    requires { ⌜ Unfinished (now text) line judged (now coefficients) (now out) ⌝ }
     ensures { λ r. ⌜
         TextPut (now (out .entry)) 0
-        (outputOf judged (now (coefficients .entry)) (now (text .entry))) (now (out .exit)) r ⌝ }
+        (outputFrom line judged (now (coefficients .entry)) (now (text .entry)))
+        (now (out .exit)) r ⌝ }
 {
     if text.len() == 0 {
         return 0;
     }
-    answer_line(text, judged, coefficients, out, 0)
+    answer_line(text, line, judged, coefficients, out, 0)
 }

@@ -49,3 +49,4 @@ pub mod Slope
 pub mod Flags
 pub mod Places
 pub mod Verdicts
+pub mod Exactly

@@ -3,11 +3,12 @@ use mathlib.Core.Path.{_≡_, refl, sym, _∙_, ap, subst}
 use mathlib.Core.Bool.{Bool, true, false, cond}
 use mathlib.Core.List.{List, [], _∷_, map}
 use mathlib.Core.Logic.{⊎-elim}
-use Prim.Native.Nat.{ℕ, zero, suc, _≤_, _<_, zero-le}
+use Prim.Native.Nat.{ℕ, zero, suc, _+_, _≤_, _<_, zero-le}
 use native.Mathlib.Nat.{le-of-suc-le-suc, not-suc-le-zero, eq-or-lt-of-le, le-refl, lt-irrefl}
 use native.Mathlib.Omega.{arith}
-use lib.ListN.{length, getD, length-map}
-use lib.Seq.{ext-getD}
+use borrow.Author.Count.{below-more}
+use lib.ListN.{length, getD, set, length-map, length-set}
+use lib.Seq.{ext-getD, getD-set-same, getD-set-other}
 use Rattle.numbers.specs.Lowest.{lowest, every, upTo}
 use Rattle.numbers.proofs.Flags.{never, both}
 
@@ -107,3 +108,38 @@ pub is-map : {A B : Type 0} (f : A → B) (l : List A) (m : List B) (d : A) (e :
     → m ≡ map f l
 is-map f l m d e long each =
     ext-getD e m (map f l) (long ∙ sym (length-map l f)) (λ i h. let k = subst (λ (n : ℕ). i < n) long h in each i k ∙ sym (map-at f l d e i k))
+
+-- ---- a list written place by place
+pub not-same : {a b : ℕ} → a < b → a ≡ b → ⊥
+not-same h e = omega arith
+
+-- the first i places hold what they should, and so does one more
+pub written-more : {A : Type 0} (l : List A) (i : ℕ) (x d : A) (of : ℕ → A) → i < length l
+    → ((j : ℕ) → j < i → getD l j d ≡ of j) → x ≡ of i
+    → (j : ℕ) → j < i + 1 → getD (set l i x) j d ≡ of j
+written-more l i x d of h before here =
+    below-more (λ j. getD (set l i x) j d ≡ of j) i
+    (λ j k. getD-set-other l i j x d (not-same k) ∙ before j k)
+    (getD-set-same l i x d h ∙ here)
+
+-- each of the first i places of a list is made of what it held, the others are as they were
+pub record Mapped {A : Type 0} (f : A → A) (d : A) (old l : List A) (i : ℕ) : Type 0 where
+  pub long : length l ≡ length old
+  pub made : (j : ℕ) → j < i → getD l j d ≡ f (getD old j d)
+  pub left : (j : ℕ) → i ≤ j → getD l j d ≡ getD old j d
+
+module _ {A : Type 0} (f : A → A) (d : A) (old : List A) where
+  pub mapped-none : Mapped f d old old 0
+  mapped-none = record { long = refl; made = λ j h. absurd (not-suc-le-zero h); left = λ j h. refl }
+
+  pub mapped-more : {l : List A} {i : ℕ} (x : A) → i < length l → Mapped f d old l i → x ≡ f (getD l i d)
+      → Mapped f d old (set l i x) (i + 1)
+  mapped-more {l} {i} x h m e =
+      record {
+        long = length-set l i x ∙ m .long;
+        made = written-more l i x d (λ j. f (getD old j d)) h (m .made) (e ∙ ap f (m .left i (le-refl i)));
+        left = λ j k. getD-set-other l i j x d (λ z. let no : ⊥ = omega arith in no) ∙ m .left j (omega arith);
+      }
+
+  pub mapped-all : {l : List A} {i : ℕ} → length l ≤ i → Mapped f d old l i → l ≡ map f old
+  mapped-all h m = is-map f old _ d d (m .long) (λ j k. m .made j (omega (arith, k, m .long, h)))

@@ -6,20 +6,15 @@ use mathlib.Core.Bool.{Bool, true, false, cond}
 use mathlib.Core.List.{List, [], _∷_, _++_}
 use mathlib.Core.Logic.{⊎-elim}
 use Prim.Native.Nat.{ℕ, zero, suc, _+_, _≤_, _<_, zero-le}
-use native.Mathlib.Nat.{eq-or-lt-of-le, zero-add}
+use native.Mathlib.Nat.{eq-or-lt-of-le, zero-add, le-of-eq, le-of-suc-le-suc, not-suc-le-zero}
 use native.Mathlib.Decide.{decLt}
 use native.Mathlib.Omega.{arith}
 use borrow.Author.Tests.{lt-ltb, le-ltb, ltb-true, ltb-false}
-use lib.Dec.{ltb}
-use lib.ListN.{length}
+use lib.Dec.{ltb, eqb}
+use lib.ListN.{length, getD}
 use Rattle.numbers.specs.Lowest.{lowest}
-use Rattle.numbers.specs.Tests.{Test, test, single, failsAt, verdict, Rule, along, over, rank, told}
-use Rattle.numbers.proofs.Places.{first-is, none-fails}
-
--- every test of a list passes at each of its places
-abbrev pub AllPass : List Test → Type 0
-AllPass [] = Unit {0}
-AllPass (x ∷ xs) = (x .places ≤ failsAt x) × AllPass xs
+use Rattle.numbers.specs.Tests.{Test, test, single, failsAt, verdict, AllPass, FirstFailing, Rule, along, over, rank, told}
+use Rattle.numbers.proofs.Places.{first-is, none-fails, all-pass}
 
 -- two lists, one behind the other
 pub pass-both : (xs ys : List Test) → AllPass (xs ++ ys) → AllPass xs × AllPass ys
@@ -118,17 +113,6 @@ pub record Telling {A : Type 0} (refused : ℕ → ℕ → A) (none : A) : Type 
   pub number-is : (n p : ℕ) → number (refused n p) ≡ n
   pub place-is : (n p : ℕ) → place (refused n p) ≡ p
   pub apart : (n p : ℕ) → refused n p ≡ none → ⊥
-
--- the first test of a list that fails, and its lowest place
-pub record FirstFailing (xs : List Test) (number place : ℕ) : Type 0 where
-  pub before : List Test
-  pub first : Test
-  pub after : List Test
-  pub split : xs ≡ before ++ first ∷ after
-  pub passed : AllPass before
-  pub fails : place < first .places
-  pub lowest : failsAt first ≡ place
-  pub is : first .number ≡ number
 
 in-front : (x : Test) (xs : List Test) (number place : ℕ) → x .places ≤ failsAt x
     → FirstFailing xs number place → FirstFailing (x ∷ xs) number place
@@ -329,6 +313,50 @@ by-rank refused none (x ∷ xs) n (suc r) place b =
           found = λ h. omega (arith, b .found (under h), step place (b .inside (under h)) .1);
           before = λ h i l. omega (arith, b .before (under h) i l, b .inside (under h), step i (omega (arith, b .inside (under h))) .1);
         }
+
+-- ---- what is told of a rank: a rule's number, by the list of their numbers
+abbrev pub numbersOf : {A : Type 0} → List (Rule A) → List ℕ
+numbersOf [] = []
+numbersOf (x ∷ xs) = x .number ∷ numbersOf xs
+
+module _ {A B : Type 0} (refused : ℕ → ℕ → A) (none : A) where
+  pub told-rule : (xs : List (Rule B)) (r place : ℕ) → r < length xs
+      → refused (getD (numbersOf xs) r 0) place ≡ told refused none xs r place
+  unfolding told
+  told-rule [] r place h = absurd (not-suc-le-zero h)
+  told-rule (x ∷ xs) zero place h = refl
+  told-rule (x ∷ xs) (suc r) place h = told-rule xs r place (le-of-suc-le-suc h)
+
+  pub told-none : (xs : List (Rule B)) (r place : ℕ) → length xs ≤ r → none ≡ told refused none xs r place
+  unfolding told
+  told-none [] r place h = refl
+  told-none (x ∷ xs) zero place h = absurd (not-suc-le-zero h)
+  told-none (x ∷ xs) (suc r) place h = told-none xs r place (le-of-suc-le-suc h)
+
+-- ---- where every rule passes
+-- so does the one of a number: what it says, and true where no rule has the number
+abbrev pub passNumbered : {A : Type 0} → ℕ → List (Rule A) → A → Bool
+passNumbered number [] a = true
+passNumbered number (x ∷ xs) a = cond (eqb number (x .number)) (x .pass a) (passNumbered number xs a)
+
+pub numbered-passes : (number n : ℕ) (xs : List (Rule ℕ)) → AllPass (over n xs) → (i : ℕ) → i < n
+    → passNumbered number xs i ≡ true
+numbered-passes number n [] p i h = refl
+numbered-passes number n (x ∷ xs) p i h =
+    by (eqb number (x .number)) (all-pass (x .pass) n (p .0) i h) (numbered-passes number n xs (p .1) i h)
+  where
+    by : (v : Bool) → x .pass i ≡ true → passNumbered number xs i ≡ true
+        → cond v (x .pass i) (passNumbered number xs i) ≡ true
+    by true e d = e
+    by false e d = d
+
+-- and all pass too where the same stands at each place, with other rules behind
+pub same-pass : {A : Type 0} (f g : ℕ → A) (n : ℕ) → ((i : ℕ) → i < n → f i ≡ g i)
+    → (xs : List (Rule A)) (ys zs : List (Rule ℕ)) → (AllPass (over n ys) → AllPass (over n zs))
+    → AllPass (over n (along f xs ++ ys)) → AllPass (over n (along g xs ++ zs))
+same-pass f g n same [] ys zs h p = h p
+same-pass f g n same (x ∷ xs) ys zs h p =
+    (le-of-eq (none-fails _ n (λ i l. ap (x .pass) (sym (same i l)) ∙ all-pass _ n (p .0) i l)), same-pass f g n same xs ys zs h (p .1))
 
 -- ---- rules behind others: their ranks come after
 pub rank-more : {A : Type 0} (f : ℕ → A) (xs : List (Rule A)) (ys : List (Rule ℕ)) (i : ℕ)

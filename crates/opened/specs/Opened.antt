@@ -6,6 +6,7 @@ use Prim.Native.Nat.{ℕ, _≤_}
 use lib.IntN.{ℤ, pos}
 use lib.ListN.{length, take, drop, replicate}
 use Rattle.image.specs.declared.table.Table.{Table}
+use Rattle.image.specs.Bounds.{mostCoefficients}
 use Rattle.image.specs.Image.{tableOf, howMany, coefficientsStored}
 use Rattle.granules.specs.Accepted.{Accepted}
 use Rattle.blocks.specs.declared.answer.Judged.{Judged}
@@ -20,11 +21,11 @@ coefficientsIn bytes = coefficientsStored bytes (tableOf bytes .count) (tableOf 
 pub record Opened (bytes : List ℕ) (table : Table) : Type 0 where
   pub accepted : judged bytes ≡ J.Accepted table
 
--- the coefficients at the front of a room of 5760, and zeros behind
+-- the coefficients at the front of a room for the largest table, and zeros behind
 pub record Taken (bytes : List ℕ) (table : Table) (room : List ℤ) : Type 0 where
   pub long : howMany table ≤ length room
   pub front : take (howMany table) room ≡ coefficientsStored bytes (table .count) (table .degree)
-  pub behind : drop (howMany table) room ≡ drop (howMany table) (replicate 5760 (pos 0))
+  pub behind : drop (howMany table) room ≡ drop (howMany table) (replicate mostCoefficients (pos 0))
 
 -- the coefficients of bytes that were judged, if they were accepted
 pub record Lent (table : Judged) (coefficients : List ℤ) : Type 0 where

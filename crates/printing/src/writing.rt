@@ -41,7 +41,7 @@ fn write_answer(out: &mut [u8], at: usize, to: i64, tick: i64, steps: u32) -> us
 }
 
 // Puts `refused N` and a newline. The callers keep room for the longest line.
-pub fn write_refused(out: &mut [u8], at: usize, number: u32) -> usize
+fn write_refused(out: &mut [u8], at: usize, number: u32) -> usize
     requires { ⌜ at + longest ≤ length (now out) ⌝ }
     ensures { λ r. ⌜ TextPut (now (out .entry)) at (refusedLine number) (now (out .exit)) r ⌝ }
 {

@@ -24,6 +24,7 @@ use Rattle.dates.proofs as dates
 use Rattle.walk.proofs as walk
 use Rattle.desk.proofs as desk
 use Rattle.entries.proofs as entries
+use Rattle.filling.proofs as filling
 use Rattle.batch.proofs as batches
 use Rattle.line.proofs as line
 use Rattle.printing.proofs as printing
@@ -223,8 +224,11 @@ pub write-date : One dates.writing.write_date.Reads.Learnt
 write-date = equation
 
 -- ---- walk
-pub take-step : One walk.step.take_step.Reads.Learnt
-take-step = equation
+pub kept-to-tdb : One walk.step.to_tdb.Reads.Learnt
+kept-to-tdb = equation
+
+pub kept-to-tt : One walk.step.to_tt.Reads.Learnt
+kept-to-tt = equation
 
 pub walk-on : One walk.walk.walk.Reads.Learnt
 walk-on = equation
@@ -243,7 +247,11 @@ pub convert-judged : One desk.conversion.convert_judged.Reads.Learnt
 convert-judged = equation
 
 -- ---- entries
-pub batch-over : OneInto entries.batch_over.Reads.Learnt (λ κs s. s .1 .1 .1 .0 .now)
+pub tried : One entries.trying.tried.Reads.Learnt
+tried = equation
+
+-- ---- filling
+pub batch-over : OneInto filling.batch_over.Reads.Learnt (λ κs s. s .1 .1 .1 .0 .now)
 batch-over = both (λ κs a r s p. (p .is, p .list))
 
 -- ---- batch
@@ -258,18 +266,18 @@ pub code-of : One line.reading.code_of.Reads.Learnt
 code-of = equation
 
 -- ---- printing
-pub write-refused : OneInto printing.writing.write_refused.Reads.Learnt (λ κs s. s .0 .now)
-write-refused = both (λ κs a r s p. (p .after, p .holds))
-
 pub write-line : OneInto printing.writing.write_line.Reads.Learnt (λ κs s. s .0 .now)
 write-line = both (λ κs a r s p. (p .after, p .holds))
 
 -- ---- lines
-pub feed : OneInto {B = List ℕ × List ℕ} lines.feed.Reads.Learnt (λ κs s. (s .0 .now, s .1 .1 .1 .1 .0 .now))
+pub feed : OneInto {B = List ℕ × List ℕ} lines.feed.Reads.Learnt (λ κs s. (s .0 .now, s .1 .1 .1 .1 .1 .0 .now))
 feed = both (λ κs a r s p.
-    (ap₂ (λ text out. record { text = text; out = out }) (p .kept .after) (p .put .after), ap₂ (λ text out. (text, out)) (p .kept .holds) (p .put .holds)))
+    let places = ap₂ (λ (text out : ℕ). (text, out)) (p .kept .after) (p .put .after) in (
+      ap₂ (λ (places : ℕ × ℕ) (line : ℕ). record { text = places .0; out = places .1; line = line }) places (p .next),
+      ap₂ (λ text out. (text, out)) (p .kept .holds) (p .put .holds),
+    ))
 
-pub answer-last : OneInto lines.answer_last.Reads.Learnt (λ κs s. s .1 .1 .1 .0 .now)
+pub answer-last : OneInto lines.answer_last.Reads.Learnt (λ κs s. s .1 .1 .1 .1 .0 .now)
 answer-last = both (λ κs a r s p. (p .after, p .holds))
 
 -- ---- hosts

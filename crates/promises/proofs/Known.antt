@@ -26,9 +26,10 @@ use Rattle.blocks.proofs.Taking.{is-new}
 use Rattle.blocks.proofs.RoundTrip.{written-accepted, written-read}
 use Rattle.ephemeris.specs.Accepted as table
 use Rattle.ephemeris.specs.Steps.{tdbStep, ttStep}
-use Rattle.ephemeris.specs.Table.{lastPlace, tickAt, isInside, placeOf, granuleOf, placeIn, coefficientsOf, tableDelay, tdbOf, tdbAt, earliestPlace, ttOf}
+use Rattle.ephemeris.specs.Table.{lastPlace, tickAt, isInside, placeOf, granuleOf, placeIn, tableDelay, tdbOf, tdbAt, earliestPlace, ttOf}
 use Rattle.ephemeris.specs.Table.{isCovered}
 use Rattle.ephemeris.proofs.Search.{earliest-is}
+use Rattle.dates.specs.Answers.{readNumber, readTick}
 use Rattle.dates.specs.Doubles.{numerator, denominator, beyond}
 use Rattle.dates.specs.Readings.{inRange, readOf}
 use Rattle.dates.specs.Ticks as ticks
@@ -38,6 +39,7 @@ use Rattle.desk.specs.Conversion.{betweenOf, convertJudged, convertOf}
 use Rattle.walk.specs.Walk.{walkOf}
 use Rattle.desk.specs.Conversion.{heldBy}
 use Rattle.promises.specs.Known.{knownTable, knownCoefficients, knownBytes, AllHold, rows}
+use Rattle.promises.proofs.Exactly.{gives}
 use Rattle.promises.proofs.Walks.{bytes-held}
 
 -- ---- 'n=0': D is c_0 rounded to ticks, at every place
@@ -117,14 +119,17 @@ a and b = (a, b)
 
 pub known : AllHold rows
 unfolding convertOf convertJudged settled betweenOf readOf inRange walkOf lineStep keptIn isValid nearestTick exact nearest floorDiv ticks.tickOfDate
-    ticks.ticksRounded numerator denominator beyond
+    ticks.ticksRounded numerator denominator beyond readNumber readTick
 known =
     -- P1 to P6
-    refl and refl and refl and refl and refl and refl and refl and refl and refl
+    gives _ _ _ _ refl and gives _ _ _ _ refl and gives _ _ _ _ refl and gives _ _ _ _ refl and gives _ _ _ _ refl
+    and gives _ _ _ _ refl and gives _ _ _ _ refl and gives _ _ _ _ refl and gives _ _ _ _ refl
     -- P7 to P9
     and constant (pos 32767) and constant (pos 32768) and constant (negsuc 32767)
     -- P10 and P11
-    and (rw (known-judged, known-held, over-known .first)) and (rw (known-judged, known-held, over-known .first-back))
-    and (rw (known-judged, known-held, over-known .last)) and (rw (known-judged, known-held, over-known .last-back))
+    and gives _ _ _ _ (rw (known-judged, known-held, over-known .first))
+    and gives _ _ _ _ (rw (known-judged, known-held, over-known .first-back))
+    and gives _ _ _ _ (rw (known-judged, known-held, over-known .last))
+    and gives _ _ _ _ (rw (known-judged, known-held, over-known .last-back))
     -- P12 and P13
-    and refl and refl and tt
+    and (refl, refl) and (refl, refl) and tt

@@ -9,10 +9,11 @@ use lib.Signed.{_≤ℤ_}
 use Rattle.scales.specs.declared.answer.Answer.the-variants.{Converted}
 use Rattle.scales.specs.declared.answer.Epoch.{Epoch}
 use Rattle.scales.specs.declared.path.Step.{Step}
+use Rattle.scales.specs.Answers.{answerNumber, answerTick, answerSteps}
 use Rattle.scales.specs.Path.{path}
-use Rattle.dates.specs.declared.reading.Read.the-variants as R
 use Rattle.dates.specs.declared.reading.Reading.{Reading}
 use Rattle.dates.specs.declared.reading.Reading.the-variants.{Ticks}
+use Rattle.dates.specs.Answers.{readTick}
 use Rattle.dates.specs.Readings.{readOf}
 use Rattle.walk.specs.declared.kept.Kept.{Kept}
 use Rattle.opened.specs.Opened.{coefficientsIn}
@@ -24,7 +25,9 @@ use Rattle.walk.proofs.Steps.{stepping}
 use Rattle.scales.specs.Scales.{named}
 use Rattle.promises.specs.Words.{tableIn}
 use Rattle.promises.specs.Words.{startOf}
-use Rattle.promises.proofs.Walks.{came-to, reading-walk, tick-read, bytes-held}
+use Rattle.promises.proofs.Exactly.{epochOf}
+use Rattle.promises.proofs.Walks.{came-to, bytes-held}
+use Rattle.promises.proofs.Answers.{walked-from, read-accepted, ticks-read}
 
 -- ---- along a walk
 module _ (kept : Kept) (cs : List ℤ) (h : Held kept cs) (e f : Epoch) (m n : ℕ) where
@@ -38,18 +41,24 @@ module _ (kept : Kept) (cs : List ℤ) (h : Held kept cs) (e f : Epoch) (m n : �
       let ordered = step-order kept cs h step (t .tick) (u .tick) (x .at) (y .at) (x .reached) (y .reached) l in
       walk-order more (suc done) (x .at) (y .at) (x .onwards) (y .onwards) ordered
 
--- ---- of two readings of the first scale, read as ticks t and u
-pub readings-in-order : (from to : ℕ) (bytes : List ℕ) (early late : Reading) (t u : ℤ) (e f : Epoch) (m n : ℕ)
-    → readOf early ≡ R.Tick t → readOf late ≡ R.Tick u → convertOf from to early bytes ≡ Converted e m
-    → convertOf from to late bytes ≡ Converted f n → t ≤ℤ u → e .tick ≤ℤ f .tick
-readings-in-order from to bytes early late t u e f m n r s a b l =
-    walk-order (tableIn bytes) (coefficientsIn bytes) (bytes-held bytes) e f m n (path (named from) (named to)) 0 (startOf from t) (startOf from u)
-    (reading-walk from to bytes e m early t r a) (reading-walk from to bytes f n late u s b) l
+-- ---- Of two readings of the first scale, converted by the same codes over the same table bytes
+-- and both accepted, the one whose tick is the earlier never comes out later.
+pub readings-in-order : (from to : ℕ) (bytes : List ℕ) (early late : Reading)
+    → answerNumber (convertOf from to early bytes) ≡ 0 → answerNumber (convertOf from to late bytes) ≡ 0
+    → readTick (readOf early) ≤ℤ readTick (readOf late)
+    → answerTick (convertOf from to early bytes) ≤ℤ answerTick (convertOf from to late bytes)
+readings-in-order from to bytes early late a b l =
+    let one = convertOf from to early bytes in
+    let other = convertOf from to late bytes in
+    walk-order (tableIn bytes) (coefficientsIn bytes) (bytes-held bytes) (epochOf one) (epochOf other) (answerSteps one) (answerSteps other)
+    (path (named from) (named to)) 0 (startOf from (readTick (readOf early))) (startOf from (readTick (readOf late)))
+    (walked-from from to early bytes a) (walked-from from to late bytes b) l
 
--- ---- Of two ticks t and u of the first scale, converted by the same codes over the same table
--- bytes and both accepted, the earlier never comes out later.
-pub in-order : (from to : ℕ) (bytes : List ℕ) (t u : ℤ) (e f : Epoch) (m n : ℕ)
-    → convertOf from to (Ticks t) bytes ≡ Converted e m → convertOf from to (Ticks u) bytes ≡ Converted f n → t ≤ℤ u
-    → e .tick ≤ℤ f .tick
-in-order from to bytes t u e f m n a b l =
-    readings-in-order from to bytes (Ticks t) (Ticks u) t u e f m n (tick-read from to bytes e m t a) (tick-read from to bytes f n u b) a b l
+-- so of two ticks t and u
+pub in-order : (from to : ℕ) (bytes : List ℕ) (t u : ℤ) → answerNumber (convertOf from to (Ticks t) bytes) ≡ 0
+    → answerNumber (convertOf from to (Ticks u) bytes) ≡ 0 → t ≤ℤ u
+    → answerTick (convertOf from to (Ticks t) bytes) ≤ℤ answerTick (convertOf from to (Ticks u) bytes)
+in-order from to bytes t u a b l =
+    let early = ticks-read t (read-accepted from to (Ticks t) bytes a) in
+    let late = ticks-read u (read-accepted from to (Ticks u) bytes b) in
+    readings-in-order from to bytes (Ticks t) (Ticks u) a b (rw (early, late) l)

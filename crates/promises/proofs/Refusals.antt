@@ -1,34 +1,37 @@
 -- Each conversion is answered or refused, never both; a refusal tells one of the page's numbers
 -- with its place, and carries no tick. Assumes nothing.
-use mathlib.Core.Path.{_≡_, refl, sym, _∙_, ap, subst}
+use mathlib.Core.Path.{_≡_, refl, sym, _∙_, ap}
 use mathlib.Core.Logic.{_⊎_, inl, inr}
-use mathlib.Core.Bool.{Bool, true, false, cond, not}
+use mathlib.Core.Bool.{Bool, true, false, cond, not, _&&_}
 use mathlib.Core.List.{List, [], _∷_, _++_}
-use Prim.Native.Nat.{ℕ, suc, _≤_}
+use Prim.Native.Nat.{ℕ, suc, _≤_, _<_}
 use native.Mathlib.Omega.{arith}
-use lib.Dec.{ltb, lit≤}
+use borrow.Author.Tests.{leb-true}
+use lib.Dec.{ltb, leb, lit≤}
 use lib.IntN.{ℤ, pos}
 use lib.ListN.{length}
-use Rattle.numbers.proofs.Flags.{never, or-right}
+use Rattle.numbers.proofs.Flags.{never, both, or-right}
 use Rattle.scales.specs.declared.answer.Answer.{Answer}
 use Rattle.scales.specs.declared.answer.Answer.the-variants.{Converted, Refused}
 use Rattle.scales.specs.declared.answer.Epoch.{Epoch}
 use Rattle.scales.specs.declared.refusal.Refusal.{Refusal}
 use Rattle.scales.specs.declared.path.Step.{Step}
 use Rattle.scales.specs.declared.scale.Scale.{Scale}
-use Rattle.scales.specs.Answers.{answerTick, answerSteps}
+use Rattle.scales.specs.Answers.{answerNumber, answerPlace, answerTick, answerSteps, steppedNumber}
 use Rattle.scales.specs.Path.{path, anyOverTable, crosses}
 use Rattle.scales.specs.Rows.{overTable}
-use Rattle.scales.proofs.Paths.{each}
+use Rattle.scales.proofs.Every.{every-two}
 use Rattle.image.specs.declared.table.Table.{Table}
+use Rattle.image.specs.Image.{tableOf}
 use Rattle.blocks.specs.declared.answer.Judged.the-variants as J
 use Rattle.blocks.specs.Answers as blocks
 use Rattle.numbers.specs.Tests.{Test, failsAt, verdict}
-use Rattle.blocks.specs.Judging.{judgedBy, judged}
+use Rattle.blocks.specs.Judging.{judgedBy, tableTests, judged}
 use Rattle.dates.specs.declared.reading.Read.the-variants as R
 use Rattle.dates.specs.declared.reading.Reading.{Reading}
+use Rattle.dates.specs.Answers.{readNumber, readTick}
 use Rattle.dates.specs.Readings.{readOf}
-use Rattle.scales.specs.declared.answer.Stepped.the-variants.{OutsideTable, OutsideRange}
+use Rattle.scales.specs.declared.answer.Stepped.the-variants.{OutsideTable}
 use Rattle.walk.specs.declared.kept.Kept.{Kept}
 use Rattle.desk.specs.Order.{settled}
 use Rattle.opened.specs.Opened.{coefficientsIn}
@@ -38,50 +41,45 @@ use Rattle.walk.proofs.Steps.{steps-are}
 use Rattle.scales.specs.Scales.{named}
 use Rattle.promises.specs.Words.{tableIn}
 use Rattle.promises.specs.Words.{startOf}
-use Rattle.promises.specs.Reasons.{Stopped, StoppedBetween, EndedBetween, outside-table, outside-range, Because, by-from, by-to, by-table, by-reading}
-use Rattle.promises.specs.Reasons.{by-walk, stepsToTable, overOnce, toldNumbers, isAmong}
+use Rattle.promises.specs.Reasons.{StoppedAfter, stepsToTable, overOnce, toldNumbers, isAmong}
 use Rattle.promises.proofs.Readings.{reading-told}
-use Rattle.promises.proofs.Walks.{apart}
 use Rattle.promises.proofs.Steps.{step-outside}
-use Rattle.promises.proofs.Reasons.{because}
+use Rattle.promises.proofs.Reasons.{Stopped, EndedBetween, outside-table, outside-range, Because, by-from, by-to, by-table, by-reading, by-walk, because}
 
 -- ---- which numbers are told: what holds of each of them holds of the one that is told
-module _ (P : ℕ → Type 0) where
+module _ (p : ℕ → Bool) where
   -- of a list of tests
-  abbrev All : List Test → Type 0
-  All [] = Unit {0}
-  All (x ∷ xs) = P (x .number) × All xs
+  abbrev allNumbers : List Test → Bool
+  allNumbers [] = true
+  allNumbers (x ∷ xs) = p (x .number) && allNumbers xs
 
-  tests-number : (xs : List Test) (t : Table) (r : Refusal) → All xs → judgedBy xs t ≡ J.Refused r → P (r .number)
+  tests-number : (xs : List Test) (t : Table) (r : Refusal) → allNumbers xs ≡ true → judgedBy xs t ≡ J.Refused r
+      → p (r .number) ≡ true
   unfolding verdict blocks.judgedNumber
   tests-number [] t r a e = let z : _≡_ {A = ℕ} 0 1 = cc in let no : ⊥ = omega arith in absurd no
-  tests-number (x ∷ xs) t r a e = by (tests-number xs t r (a .1)) (ltb (failsAt x) (x .places)) e
+  tests-number (x ∷ xs) t r a e =
+      let d = both (p (x .number)) (allNumbers xs) a in
+      by (d .0) (tests-number xs t r (d .1)) (ltb (failsAt x) (x .places)) e
     where
-      by : (judgedBy xs t ≡ J.Refused r → P (r .number)) → (fails : Bool)
+      by : p (x .number) ≡ true → (judgedBy xs t ≡ J.Refused r → p (r .number) ≡ true) → (fails : Bool)
           → cond fails (blocks.judgedRefused (x .number) (failsAt x)) (judgedBy xs t) ≡ J.Refused r
-          → P (r .number)
-      by rest true e = subst P (ap blocks.judgedNumber e) (a .0)
-      by rest false e = rest e
+          → p (r .number) ≡ true
+      by first rest true e = sym (ap (λ (n : ℕ). p n) (ap blocks.judgedNumber e)) ∙ first
+      by first rest false e = rest e
 
-  table-number : (bytes : List ℕ) (r : Refusal) → P 10 → P 11 → P 12 → P 13 → P 14 → P 15 → P 16
-      → judged bytes ≡ J.Refused r → P (r .number)
+  table-number : (bytes : List ℕ) (r : Refusal) → allNumbers (tableTests bytes (tableOf bytes)) ≡ true
+      → judged bytes ≡ J.Refused r → p (r .number) ≡ true
   unfolding judged
-  table-number bytes r p10 p11 p12 p13 p14 p15 p16 e = tests-number _ _ r (p10, (p11, (p12, (p13, (p12, (p14, (p15, (p16, tt)))))))) e
+  table-number bytes r a e = tests-number _ _ r a e
 
 -- a table's are above all others
 table-above : (bytes : List ℕ) (r : Refusal) → judged bytes ≡ J.Refused r → 10 ≤ r .number
-table-above bytes r e = table-number (λ n. 10 ≤ n) bytes r (lit≤ tt) (lit≤ tt) (lit≤ tt) (lit≤ tt) (lit≤ tt) (lit≤ tt) (lit≤ tt) e
+table-above bytes r e = leb-true 10 (r .number) (table-number (leb 10) bytes r refl e)
 
 -- ---- where 6 is told
 -- a path has at most one step over the table
 once : (from to : Scale) → overOnce (path from to) ≡ true
-once = each _
-    (each _ refl refl refl refl refl refl)
-    (each _ refl refl refl refl refl refl)
-    (each _ refl refl refl refl refl refl)
-    (each _ refl refl refl refl refl refl)
-    (each _ refl refl refl refl refl refl)
-    (each _ refl refl refl refl refl refl)
+once = every-two (λ from to. overOnce (path from to)) (λ from to. true) refl
 
 any-over : (before : List Step) (last : Step) (after : List Step) → overTable last ≡ true
     → anyOverTable (before ++ last ∷ after) ≡ true
@@ -108,28 +106,11 @@ stopped-over kept cs p start done o s =
     let so = so-many-before (s .before) (s .last) (s .after) (step-outside kept cs (s .epoch .tick) (s .last) (s .stopped)) (rw (s .split) at o) in
     rw (s .split, so) (omega arith)
 
--- ---- 'get an answer or a numbered refusal': any answer is one of the two, and none is both
-pub answered-or-refused : (answer : Answer)
-    → ((epoch : Epoch) × (steps : ℕ) × (answer ≡ Converted epoch steps)) ⊎ ((r : Refusal) × (answer ≡ Refused r))
-answered-or-refused (Converted epoch steps) = inl (epoch, steps, refl)
-answered-or-refused (Refused r) = inr (r, refl)
-
-pub never-both : (answer : Answer) (epoch : Epoch) (steps : ℕ) (r : Refusal) → answer ≡ Converted epoch steps
-    → answer ≡ Refused r → ⊥
-never-both answer epoch steps r a e = apart (sym e ∙ a)
-
--- ---- a refused conversion, of any codes and reading over any table bytes
+-- ---- the refusal of a conversion, of any codes and reading over any table bytes
 module _ (from to : ℕ) (reading : Reading) (bytes : List ℕ) (r : Refusal)
     (refused : convertOf from to reading bytes ≡ Refused r) where
-  -- 'A refusal carries no tick', and no steps
-  pub carries-nothing : (answerTick (convertOf from to reading bytes) ≡ pos 0)
-      × (answerSteps (convertOf from to reading bytes) ≡ 0)
-  unfolding answerTick answerSteps
-  carries-nothing = (ap answerTick refused, ap answerSteps refused)
-
-  -- its number is 1, 2, 3, 4, 6 or one of 10 to 16
-  pub told-number : isAmong toldNumbers (r .number) ≡ true
-  told-number = by (because from to reading bytes r refused)
+  number-told : isAmong toldNumbers (r .number) ≡ true
+  number-told = by (because from to reading bytes r refused)
     where
       of : (number : ℕ) → isAmong toldNumbers number ≡ true → r .number ≡ number
           → isAmong toldNumbers (r .number) ≡ true
@@ -142,7 +123,7 @@ module _ (from to : ℕ) (reading : Reading) (bytes : List ℕ) (r : Refusal)
       by : Because from to reading bytes r → isAmong toldNumbers (r .number) ≡ true
       by (by-from h n p) = of 1 refl n
       by (by-to h k n p) = of 1 refl n
-      by (by-table o j) = table-number (λ n. isAmong toldNumbers n ≡ true) bytes r refl refl refl refl refl refl refl j
+      by (by-table o j) = table-number (isAmong toldNumbers) bytes r refl j
       by (by-reading q) = reading-told (λ of. isAmong toldNumbers (of .number) ≡ true) reading refl refl refl refl refl r q
       by (by-walk tick q w) = ended tick w
 
@@ -160,29 +141,40 @@ module _ (from to : ℕ) (reading : Reading) (bytes : List ℕ) (r : Refusal)
           absurd no
       by (by-walk tick q w) = (tick, w)
 
-  -- '6: outside the table', place 'steps done': the steps of the path before the one over the table
-  pub place-of-6 : r .number ≡ 6 → r .place ≡ stepsToTable (path (named from) (named to))
-  place-of-6 six = let w = walk-6 six in by (w .0) (w .1)
+  six-told : r .number ≡ 6 → r .place ≡ stepsToTable (path (named from) (named to))
+  six-told six = let w = walk-6 six in by (w .0) (w .1)
     where
       by : (tick : ℤ) → EndedBetween from to bytes tick r → r .place ≡ stepsToTable (path (named from) (named to))
       by tick (outside-table n s) =
           stopped-over (tableIn bytes) (coefficientsIn bytes) (path (named from) (named to)) (startOf from tick) (r .place) (once (named from) (named to)) s
       by tick (outside-range done n p s) = let no : ⊥ = omega arith in absurd no
 
-  -- '4: epoch outside the range at start, between steps or at the end', place 'steps done, the one
-  -- that led outside counted': the start is refused with place 0, or so many steps are walked and
-  -- the next one leads outside
-  pub place-of-4 : r .number ≡ 4 → ((r .place ≡ 0) × (readOf reading ≡ R.Refused r))
-      ⊎ ((tick : ℤ) × (done : ℕ) × (r .place ≡ suc done) × StoppedBetween from to bytes tick done OutsideRange)
-  place-of-4 four = by (because from to reading bytes r refused)
-    where
-      ended : (tick : ℤ) → EndedBetween from to bytes tick r
-          → (tick : ℤ) × (done : ℕ) × (r .place ≡ suc done) × StoppedBetween from to bytes tick done OutsideRange
-      ended tick (outside-table n s) = let no : ⊥ = omega arith in absurd no
-      ended tick (outside-range done n p s) = (tick, done, p, s)
+  abbrev OutsideAfter : Type 0
+  OutsideAfter =
+      (done : ℕ) × (r .place ≡ suc done) × StoppedAfter from to bytes (readTick (readOf reading)) done 4
 
-      by : Because from to reading bytes r → ((r .place ≡ 0) × (readOf reading ≡ R.Refused r))
-          ⊎ ((tick : ℤ) × (done : ℕ) × (r .place ≡ suc done) × StoppedBetween from to bytes tick done OutsideRange)
+  four-told : r .number ≡ 4 → ((r .place ≡ 0) × (readNumber (readOf reading) ≡ 4)) ⊎ OutsideAfter
+  unfolding readNumber readTick answerNumber answerTick answerSteps steppedNumber
+  four-told four = by (because from to reading bytes r refused)
+    where
+      ended : (tick : ℤ) → readOf reading ≡ R.Tick tick → EndedBetween from to bytes tick r → OutsideAfter
+      ended tick q (outside-table n s) = let no : ⊥ = omega arith in absurd no
+      ended tick q (outside-range done n p s) =
+          rw q (
+            done,
+            p,
+            record {
+              before = s .before;
+              next = s .last;
+              after = s .after;
+              split = s .split;
+              walked = rw (s .walked);
+              many = rw (s .walked);
+              stopped = rw (s .walked, s .stopped);
+            },
+          )
+
+      by : Because from to reading bytes r → ((r .place ≡ 0) × (readNumber (readOf reading) ≡ 4)) ⊎ OutsideAfter
       by (by-from h n p) = let no : ⊥ = omega arith in absurd no
       by (by-to h k n p) = let no : ⊥ = omega arith in absurd no
       by (by-table o j) = let no : ⊥ = omega (arith, table-above bytes r j) in absurd no
@@ -190,8 +182,45 @@ module _ (from to : ℕ) (reading : Reading) (bytes : List ℕ) (r : Refusal)
           let start =
           reading-told (λ of. of .number ≡ 4 → of .place ≡ 0) reading (λ e. omega arith) (λ e. omega arith) (λ e. omega arith) (λ e. omega arith)
           (λ e. refl) r q in
-          inl (start four, q)
-      by (by-walk tick q w) = inr (ended tick w)
+          inl (start four, rw q four)
+      by (by-walk tick q w) = inr (ended tick q w)
+
+-- ---- and by its number, which is not 0
+module _ (from to : ℕ) (reading : Reading) (bytes : List ℕ)
+    (refused : 0 < answerNumber (convertOf from to reading bytes)) where
+  abbrev answer : Answer
+  answer = convertOf from to reading bytes
+
+  is-refused : answer ≡ Refused (record { number = answerNumber answer; place = answerPlace answer })
+  unfolding answerNumber answerPlace
+  is-refused = by answer refused
+    where
+      by : (answer : Answer) → 0 < answerNumber answer
+          → answer ≡ Refused (record { number = answerNumber answer; place = answerPlace answer })
+      by (Converted epoch steps) h = let no : ⊥ = omega arith in absurd no
+      by (Refused refusal) h = refl
+
+  -- 'A refusal carries no tick', and no steps
+  pub carries-nothing : (answerTick answer ≡ pos 0) × (answerSteps answer ≡ 0)
+  unfolding answerTick answerSteps
+  carries-nothing = (ap answerTick is-refused, ap answerSteps is-refused)
+
+  -- the number is 1, 2, 3, 4, 6 or one of 10 to 16
+  pub told-number : isAmong toldNumbers (answerNumber answer) ≡ true
+  told-number = number-told from to reading bytes _ is-refused
+
+  -- '6: outside the table', place 'steps done': the steps of the path before the one over the table
+  pub place-of-6 : answerNumber answer ≡ 6 → answerPlace answer ≡ stepsToTable (path (named from) (named to))
+  place-of-6 six = six-told from to reading bytes _ is-refused six
+
+  -- '4: epoch outside the range at start, between steps or at the end', place 'steps done, the one
+  -- that led outside counted': the reading is refused with 4, or from the tick that was read so
+  -- many steps are walked and the next one leads outside
+  pub place-of-4 : answerNumber answer ≡ 4
+      → ((answerPlace answer ≡ 0) × (readNumber (readOf reading) ≡ 4))
+      ⊎ ((done : ℕ) × (answerPlace answer ≡ suc done)
+      × StoppedAfter from to bytes (readTick (readOf reading)) done 4)
+  place-of-4 four = four-told from to reading bytes _ is-refused four
 
 -- ---- 'A path that doesn't cross never looks at the table': it answers the same over any two table
 -- bytes

@@ -14,7 +14,7 @@ use Rattle.scales.specs.declared.answer.Stepped.the-variants.{Reached, OutsideT
 use Rattle.scales.specs.declared.path.Step.{Step}
 use Rattle.scales.specs.Rows.{LineRow, lineRow, turned, lineStep, overTable, opposite}
 use Rattle.scales.specs.Tick.{isValid}
-use Rattle.scales.proofs.Paths.{each-step}
+use Rattle.scales.proofs.Every.{each-step}
 use Rattle.scales.proofs.Reached.{nowhere, same-tick}
 use Rattle.linear.proofs.Promises.{Proper, proper, proper-inverse, took, line-back, turned-twice, never-table}
 use Rattle.ephemeris.specs.Table.{tdbOf, ttOf}

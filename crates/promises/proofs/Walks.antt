@@ -7,13 +7,13 @@ use mathlib.Core.List.{List, [], _∷_}
 use Prim.Native.Nat.{ℕ, suc, _≤_, _<_}
 use native.Mathlib.Omega.{arith}
 use borrow.Author.Tests.{leb-true, leb-false}
-use lib.Dec.{leb}
 use lib.IntN.{ℤ}
 use Rattle.scales.specs.declared.answer.Answer.{Answer}
 use Rattle.scales.specs.declared.answer.Answer.the-variants.{Converted, Refused}
 use Rattle.scales.specs.declared.answer.Epoch.{Epoch}
 use Rattle.scales.specs.declared.refusal.Refusal.{Refusal}
 use Rattle.scales.specs.declared.path.Step.{Step}
+use Rattle.scales.specs.declared.scale.Purpose.the-variants as P
 use Rattle.scales.specs.declared.scale.Scale.{Scale}
 use Rattle.scales.specs.Path.{crosses}
 use Rattle.scales.specs.Tick.{isValid}
@@ -41,10 +41,9 @@ use Rattle.desk.specs.Conversion.{answering, started, betweenOf, convertJudged,
 use Rattle.walk.specs.Inner.{Held}
 use Rattle.walk.specs.Walk.{answerRefused, stepOf, walkOf}
 use Rattle.walk.specs.Walk.{walkBetween}
-use Rattle.walk.specs.Walk.{afterStep}
 use Rattle.walk.proofs.OneStep.{step-ends}
 use Rattle.walk.proofs.Steps.{not-both, stepping}
-use Rattle.scales.specs.Scales.{named}
+use Rattle.scales.specs.Scales.{highestCode, isCode, named}
 use Rattle.desk.specs.Conversion.{heldBy}
 use Rattle.promises.specs.Words.{tableIn}
 use Rattle.promises.proofs.Readings.{unread}
@@ -83,8 +82,10 @@ one-step kept cs step p single start e m w =
 -- ---- what a conversion comes to, for every reading: a code or the table is refused, or it is a
 -- walk between the two scales over what the bytes hold
 pub data Course (from to : ℕ) (bytes : List ℕ) (answer : Reading → Answer) : Type 0 where
-  from-refused : 6 < from → ((reading : Reading) → answer reading ≡ answerRefused 1 0) → Course from to bytes answer
-  to-refused : from ≤ 6 → 6 < to → ((reading : Reading) → answer reading ≡ answerRefused 1 1)
+  from-refused : highestCode P.Reading < from → ((reading : Reading) → answer reading ≡ answerRefused 1 0)
+      → Course from to bytes answer
+  to-refused : from ≤ highestCode P.Reading → highestCode P.Reading < to
+      → ((reading : Reading) → answer reading ≡ answerRefused 1 1)
       → Course from to bytes answer
   table-refused : crosses (named from) (named to) ≡ true → (r : Refusal) → judged bytes ≡ J.Refused r
       → ((reading : Reading) → answer reading ≡ Refused r) → Course from to bytes answer
@@ -113,16 +114,16 @@ module _ (from to : ℕ) (bytes : List ℕ) where
   by-path true o = by-table o (judged bytes) refl
   by-path false o = walking (λ reading. refl)
 
-  by-codes : (p q : Bool) → leb from 6 ≡ p → leb to 6 ≡ q → Course from to bytes
+  by-codes : (p q : Bool) → isCode P.Reading from ≡ p → isCode P.Reading to ≡ q → Course from to bytes
       (λ reading. answering (checks p q (crosses (named from) (named to)) (judged bytes)) (walk-of reading))
   unfolding checks
   by-codes true true f t = by-path (crosses (named from) (named to)) refl
-  by-codes true false f t = to-refused (leb-true from 6 f) (leb-false to 6 t) (λ reading. refl)
-  by-codes false q f t = from-refused (leb-false from 6 f) (λ reading. refl)
+  by-codes true false f t = to-refused (leb-true from (highestCode P.Reading) f) (leb-false to (highestCode P.Reading) t) (λ reading. refl)
+  by-codes false q f t = from-refused (leb-false from (highestCode P.Reading) f) (λ reading. refl)
 
   pub course : Course from to bytes (λ reading. convertOf from to reading bytes)
   unfolding convertOf convertJudged settled walk-of checks
-  course = by-codes (leb from 6) (leb to 6) refl refl
+  course = by-codes (isCode P.Reading from) (isCode P.Reading to) refl refl
 
 -- ---- an accepted conversion
 pub record Walk (from to : ℕ) (reading : Reading) (bytes : List ℕ) (epoch : Epoch) (steps : ℕ) : Type 0 where
@@ -174,8 +175,8 @@ module _ (from to : ℕ) (bytes : List ℕ) (epoch : Epoch) (steps : ℕ) where
   tick-walk t e = reading-walk (Ticks t) t (tick-read t e) e
 
 -- ---- over accepted bytes every conversion between codes that name a scale is that walk
-pub between-named : (from to : ℕ) (reading : Reading) (bytes : List ℕ) (table : Table) → from ≤ 6 → to ≤ 6
-    → judged bytes ≡ J.Accepted table
+pub between-named : (from to : ℕ) (reading : Reading) (bytes : List ℕ) (table : Table)
+    → from ≤ highestCode P.Reading → to ≤ highestCode P.Reading → judged bytes ≡ J.Accepted table
     → convertOf from to reading bytes
     ≡ betweenOf (named from) (named to) (readOf reading) (K.Table table) (coefficientsIn bytes)
 between-named from to reading bytes table f t j = by (course from to bytes)

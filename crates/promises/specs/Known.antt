@@ -5,15 +5,15 @@ use mathlib.Core.List.{List, [], _∷_}
 use Prim.Native.Nat.{ℕ}
 use lib.IntN.{ℤ, pos, negℤ, negsuc}
 use lib.Ieee.{Float, fin}
-use Rattle.scales.specs.declared.answer.Answer.the-variants.{Converted}
 use Rattle.granule.specs.Rule.{delayAt}
 use Rattle.image.specs.declared.table.Table.{Table}
 use Rattle.image.specs.Image.{imageOf}
-use Rattle.dates.specs.declared.reading.Read.the-variants.{Tick}
 use Rattle.dates.specs.declared.reading.Reading.the-variants.{TwoPart, Ticks}
+use Rattle.dates.specs.Answers.{Accepts}
 use Rattle.dates.specs.Readings.{readOf}
 use Rattle.desk.specs.Conversion.{convertOf}
 use Rattle.scales.specs.Scales.{named}
+use Rattle.promises.specs.Words.{Gives}
 
 -- ---- the table of P10 and P11: 'n=1, S=0, H=10^9, G=1, c_0=0, c_1=65536'
 unfoldable pub knownTable : Table
@@ -47,9 +47,9 @@ pub data Row : Type 0 where
 
 abbrev pub Holds : Row → Type 0
 Holds (converts from to tick bytes answer) =
-    convertOf from to (Ticks tick) bytes ≡ Converted (record { scale = named to; tick = answer }) 1
+    Gives (convertOf from to (Ticks tick) bytes) (named to) answer 1
 Holds (delays coefficient delay) = (place H : ℕ) → delayAt (coefficient ∷ []) place H ≡ delay
-Holds (reads first second tick) = readOf (TwoPart first second) ≡ Tick tick
+Holds (reads first second tick) = Accepts (readOf (TwoPart first second)) tick
 
 abbrev pub AllHold : List Row → Type 0
 AllHold [] = Unit {0}

@@ -1,11 +1,19 @@
 -- The words in which the promises speak of a conversion, beside those of `desk`.
+use mathlib.Core.Path.{_≡_}
 use mathlib.Core.List.{List}
 use Prim.Native.Nat.{ℕ, _*_, _^_}
 use lib.IntN.{ℤ}
+use Rattle.scales.specs.declared.answer.Answer.{Answer}
 use Rattle.scales.specs.declared.answer.Epoch.{Epoch}
+use Rattle.scales.specs.declared.scale.Scale.{Scale}
+use Rattle.scales.specs.Answers.{answerNumber, answerScale, answerTick, answerSteps}
 use Rattle.scales.specs.Scales.{named}
 use Rattle.granule.specs.Rule.{unitsInTick}
+use Rattle.image.specs.declared.table.Table.{Table}
 use Rattle.image.specs.Image.{tableOf}
+use Rattle.blocks.specs.declared.answer.Judged.{Judged}
+use Rattle.blocks.specs.Answers.{judgedNumber, judgedStart, judgedLength, judgedCount}
+use Rattle.blocks.specs.Answers.{judgedDegree}
 use Rattle.blocks.specs.Judging.{judged}
 use Rattle.ephemeris.specs.Table.{H, placeOf, tableExact}
 use Rattle.walk.specs.declared.kept.Kept.{Kept}
@@ -15,6 +23,19 @@ use Rattle.desk.specs.Conversion.{heldBy}
 -- where a conversion starts: a tick of the scale that the first code names
 abbrev pub startOf : ℕ → ℤ → Epoch
 startOf from tick = record { scale = named from; tick = tick }
+
+-- an accepted answer: number 0, with its scale, its tick and its steps
+abbrev pub Gives : Answer → Scale → ℤ → ℕ → Type 0
+Gives answer scale tick steps =
+    (answerNumber answer ≡ 0) × (answerScale answer ≡ scale) × (answerTick answer ≡ tick)
+    × (answerSteps answer ≡ steps)
+
+-- an accepted table: number 0, with the table's own numbers
+abbrev pub Tells : Judged → Table → Type 0
+Tells judgement table =
+    (judgedNumber judgement ≡ 0) × (judgedStart judgement ≡ table .start .0)
+    × (judgedLength judgement ≡ table .length) × (judgedCount judgement ≡ table .count)
+    × (judgedDegree judgement ≡ table .degree)
 
 -- the table that bytes hold, where they are accepted
 abbrev pub tableIn : List ℕ → Kept

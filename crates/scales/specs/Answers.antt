@@ -10,6 +10,7 @@ use Rattle.scales.specs.declared.answer.Stepped.the-variants as S
 use Rattle.scales.specs.declared.scale.Named.{Named}
 use Rattle.scales.specs.declared.scale.Named.the-variants as N
 use Rattle.scales.specs.declared.scale.Scale.{Scale}
+use Rattle.scales.specs.Scales.{named}
 use Rattle.scales.specs.Tick.{isValid}
 
 -- ---- a conversion's answer
@@ -29,6 +30,11 @@ unfoldable pub answerSteps : Answer → ℕ
 answerSteps (Converted epoch steps) = steps
 answerSteps (Refused refusal) = 0
 
+-- the scale, that of code 0 where a refusal carries none
+unfoldable pub answerScale : Answer → Scale
+answerScale (Converted epoch steps) = epoch .scale
+answerScale (Refused refusal) = named 0
+
 -- ---- a code's answer
 unfoldable pub namedNumber : Named → ℕ
 namedNumber (N.Scale scale) = 0
@@ -37,6 +43,10 @@ namedNumber (N.Refused refusal) = refusal .number
 unfoldable pub namedPlace : Named → ℕ
 namedPlace (N.Scale scale) = 0
 namedPlace (N.Refused refusal) = refusal .place
+
+unfoldable pub namedScale : Named → Scale
+namedScale (N.Scale scale) = scale
+namedScale (N.Refused refusal) = named 0
 
 -- ---- where a step comes to
 -- an epoch of the scale, where its tick is in the range
@@ -50,3 +60,13 @@ unfoldable pub steppedNumber : Stepped → ℕ
 steppedNumber (S.Reached epoch) = 0
 steppedNumber S.OutsideTable = 6
 steppedNumber S.OutsideRange = 4
+
+unfoldable pub steppedTick : Stepped → ℤ
+steppedTick (S.Reached epoch) = epoch .tick
+steppedTick S.OutsideTable = pos 0
+steppedTick S.OutsideRange = pos 0
+
+unfoldable pub steppedScale : Stepped → Scale
+steppedScale (S.Reached epoch) = epoch .scale
+steppedScale S.OutsideTable = named 0
+steppedScale S.OutsideRange = named 0

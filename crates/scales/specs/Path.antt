@@ -15,19 +15,20 @@ use Rattle.scales.specs.declared.scale.Scale.{Scale}
 use Rattle.scales.specs.declared.scale.Scale.the-variants.{Gps, Tai, Tt, Tcg, Tdb, Tcb}
 use Rattle.scales.specs.Rows.{end, overTable}
 
--- a number for each scale, by which two are told apart
-abbrev pub ordinal : Scale → ℕ
-ordinal Gps = 0
-ordinal Tai = 1
-ordinal Tt = 2
-ordinal Tcg = 3
-ordinal Tdb = 4
-ordinal Tcb = 5
+-- the scale's own code, 'Codes: 1 GPS, 2 TAI, 3 TT, 4 TCG, 5 TDB, 6 TCB', by which two are told
+-- apart
+abbrev pub ownCode : Scale → ℕ
+ownCode Gps = 1
+ownCode Tai = 2
+ownCode Tt = 3
+ownCode Tcg = 4
+ownCode Tdb = 5
+ownCode Tcb = 6
 
 abbrev pub isOneScale : Scale → Scale → Bool
-isOneScale from to = eqb (ordinal from) (ordinal to)
+isOneScale from to = eqb (ownCode from) (ownCode to)
 
--- one of six, by the scale to which the path leads
+-- one of these ways, by the scale to which the path leads
 abbrev pub leadingTo : Scale → Way → Way → Way → Way → Way → Way → Way
 leadingTo Gps gps tai tt tcg tdb tcb = gps
 leadingTo Tai gps tai tt tcg tdb tcb = tai

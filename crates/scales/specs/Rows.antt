@@ -1,5 +1,5 @@
 -- A step is one row: where it begins, where it ends, and by what it goes. 'The scales form one line
--- with a branch: GPS, TAI, TT, then TT to TCG, and TT to TDB to TCB': five edges, each along and
+-- with a branch: GPS, TAI, TT, then TT to TCG, and TT to TDB to TCB': its edges, each along and
 -- back.
 use mathlib.Core.Bool.{Bool, true, false, cond}
 use lib.IntN.{ℤ}

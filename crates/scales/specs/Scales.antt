@@ -11,7 +11,7 @@ use Rattle.scales.specs.declared.scale.Purpose.the-variants.{Reading, Ba
 use Rattle.scales.specs.declared.scale.Named.{Named}
 use Rattle.scales.specs.declared.scale.Named.the-variants as N
 
--- the scales that the codes 0 to 6 name, in the codes' order
+-- the scales that the codes from 0 on name, in the codes' order
 abbrev pub coded : List Scale
 coded = Tt ∷ Gps ∷ Tai ∷ Tt ∷ Tcg ∷ Tdb ∷ Tcb ∷ []
 
@@ -19,11 +19,15 @@ coded = Tt ∷ Gps ∷ Tai ∷ Tt ∷ Tcg ∷ Tdb ∷ Tcb ∷ []
 abbrev pub named : ℕ → Scale
 named code = getD coded code Tt
 
--- which numbers are codes, by what they are read for: none is a 'scale code above 6'
+-- the highest code, by what it is read for: none is a 'scale code above 6'
+abbrev pub highestCode : Purpose → ℕ
+highestCode Reading = 6
+highestCode Batch = 6
+highestCode Line = 6
+
+-- which numbers are codes
 abbrev pub isCode : Purpose → ℕ → Bool
-isCode Reading code = leb code 6
-isCode Batch code = leb code 6
-isCode Line code = leb code 6
+isCode purpose code = leb code (highestCode purpose)
 
 -- refusal '1: scale code above 6', place '0 from, 1 to'
 abbrev pub scaleOf : Purpose → ℕ → ℕ → Named

@@ -1,9 +1,9 @@
 // The path from scale to scale: 'The scales form one line with a branch: GPS, TAI, TT, then TT to
-// TCG, and TT to TDB to TCB.' Five edges, each of them a step along it and a step back.
+// TCG, and TT to TDB to TCB.' Each of its edges is a step along it and a step back.
 use crate::scale::Scale;
 ghost use mathlib.Core.Path.{_≡_};
 ghost use Rattle.scales.specs.Rows.{edgeEnds, end};
-ghost use Rattle.scales.specs.Path.{ordinal, isOneScale, leadingTo, next, steps, barycentric};
+ghost use Rattle.scales.specs.Path.{ownCode, isOneScale, leadingTo, next, steps, barycentric};
 ghost use Rattle.scales.specs.Path.{crosses};
 
 // The edges that are linear, each from and to as the page writes its equation: 'TAI = GPS + 19 s',
@@ -39,17 +39,17 @@ struct Ends {
     to: Scale,
 }
 
-// A number for each scale, by which two are told apart.
-fn ordinal_of(scale: Scale) -> u32
-    ensures { λ r. ⌜ r ≡ ordinal scale ⌝ }
+// The scale's own code, by which two are told apart.
+fn own_code(scale: Scale) -> u32
+    ensures { λ r. ⌜ r ≡ ownCode scale ⌝ }
 {
     match scale {
-        Scale::Gps => 0,
-        Scale::Tai => 1,
-        Scale::Tt => 2,
-        Scale::Tcg => 3,
-        Scale::Tdb => 4,
-        Scale::Tcb => 5,
+        Scale::Gps => 1,
+        Scale::Tai => 2,
+        Scale::Tt => 3,
+        Scale::Tcg => 4,
+        Scale::Tdb => 5,
+        Scale::Tcb => 6,
     }
 }
 
@@ -57,7 +57,7 @@ fn ordinal_of(scale: Scale) -> u32
 pub fn is_one_scale(from: Scale, to: Scale) -> bool
     ensures { λ r. ⌜ r ≡ isOneScale from to ⌝ }
 {
-    ordinal_of(from) == ordinal_of(to)
+    own_code(from) == own_code(to)
 }
 
 // 'the number of steps walked (0 to 4)'
@@ -102,7 +102,7 @@ pub fn end_of(step: Step) -> Scale
     }
 }
 
-// One of six, by the scale to which the path leads.
+// One of these ways, by the scale to which the path leads.
 fn leading_to(to: Scale, gps: Way, tai: Way, tt: Way, tcg: Way, tdb: Way, tcb: Way) -> Way
     ensures { λ r. ⌜ r ≡ leadingTo to gps tai tt tcg tdb tcb ⌝ }
 {

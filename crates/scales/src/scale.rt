@@ -1,7 +1,7 @@
 // The scales and their codes.
 use crate::refusal::Refusal;
 ghost use mathlib.Core.Path.{_≡_};
-ghost use Rattle.scales.specs.Scales.{isCode, named, scaleOf};
+ghost use Rattle.scales.specs.Scales.{highestCode, isCode, named, scaleOf};
 
 pub enum Scale {
     Gps,
@@ -25,15 +25,22 @@ pub enum Named {
     Refused(Refusal),
 }
 
-// Whether a number is a code, by what it is read for: 'scale code above 6' is none.
+// The highest code, by what it is read for: none is a 'scale code above 6'.
+fn highest_code(purpose: Purpose) -> u32
+    ensures { λ r. ⌜ r ≡ highestCode purpose ⌝ }
+{
+    match purpose {
+        Purpose::Reading => 6,
+        Purpose::Batch => 6,
+        Purpose::Line => 6,
+    }
+}
+
+// Whether a number is a code.
 fn is_code(purpose: Purpose, code: u32) -> bool
     ensures { λ r. ⌜ r ≡ isCode purpose code ⌝ }
 {
-    match purpose {
-        Purpose::Reading => code <= 6,
-        Purpose::Batch => code <= 6,
-        Purpose::Line => code <= 6,
-    }
+    code <= highest_code(purpose)
 }
 
 // 'Codes: 1 GPS, 2 TAI, 3 TT, 4 TCG, 5 TDB, 6 TCB; 0 is read as TT.' A number that is no code

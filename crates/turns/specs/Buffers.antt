@@ -14,7 +14,7 @@ use Rattle.turns.specs.declared.Outcome.the-variants.{Kept, Ended, Close
 
 -- more text than is kept, and room for what is printed for it
 pub record Large (text out : List ℕ) : Type 0 where
-  pub long : 65 ≤ length text
+  pub long : 66 ≤ length text
   pub room : longest * length text ≤ length out
 
 pub record Buffered (text : List ℕ) (table : Judged) (coefficients : List ℤ) (out : List ℕ)
@@ -22,18 +22,19 @@ pub record Buffered (text : List ℕ) (table : Judged) (coefficients : List ℤ)
   pub lent : Lent table coefficients
   pub large : Large text out
 
--- an unfinished line that is kept at the front of the text
-pub record Front (text : List ℕ) (kept : ℕ) : Type 0 where
+-- an unfinished line that is kept at the front of the text, and its number: 'line, from 1'
+pub record Front (text : List ℕ) (kept line : ℕ) : Type 0 where
   pub few : kept ≤ 65
   pub plain : hasNewline (take kept text) ≡ false
+  pub counted : 1 ≤ line
 
-pub record Waiting (text : List ℕ) (kept : ℕ) (table : Judged) (coefficients : List ℤ)
+pub record Waiting (text : List ℕ) (kept line : ℕ) (table : Judged) (coefficients : List ℤ)
     (out : List ℕ) : Type 0 where
   pub buffers : Buffered text table coefficients out
-  pub front : Front text kept
+  pub front : Front text kept line
 
 -- what a turn leaves of the text: another unfinished line, or the one that was kept
-abbrev pub Left : ℕ → List ℕ → Outcome → Type 0
-Left kept text (Kept size) = Front text size
-Left kept text Ended = Front text kept
-Left kept text Closed = Unit {0}
+abbrev pub Left : ℕ → ℕ → List ℕ → Outcome → Type 0
+Left kept line text (Kept size number) = Front text size number
+Left kept line text Ended = Front text kept line
+Left kept line text Closed = Unit {0}

@@ -11,52 +11,55 @@ use opened::how_many;
 use opened::taken;
 ghost use Rattle.turns.specs.Buffers.{Waiting, Left, Buffered, Large};
 
-// What a turn leaves: how many bytes of an unfinished line, or that the input has ended, or that
-// nothing more can be printed.
+// What a turn leaves: how many bytes of an unfinished line, and its number; or that the input has
+// ended, or that nothing more can be printed.
 enum Outcome {
-    Kept(usize),
+    Kept(usize, u64),
     Ended,
     Closed,
 }
 
 // One turn: reads what has come, prints the lines for the whole lines, keeps the start of an
-// unfinished one. `kept` bytes of it are at the front of `text`.
+// unfinished one. `kept` bytes of it are at the front of `text`, and `line` is its number.
 fn turn(
     text: &mut [u8],
     kept: usize,
+    line: u64,
     judged: Judged,
     coefficients: &[i64],
     out: &mut [u8],
 ) -> Outcome
-    requires { ⌜ Waiting (now text) kept judged (now coefficients) (now out) ⌝ }
-    ensures { λ r. ⌜ Left kept (now (text .exit)) r ⌝ }
+    requires { ⌜ Waiting (now text) kept line judged (now coefficients) (now out) ⌝ }
+    ensures { λ r. ⌜ Left kept line (now (text .exit)) r ⌝ }
 {
     let more = read_input(&mut text[kept..]);
     if more == 0 {
         return Outcome::Ended;
     }
-    let places = feed(text, kept + more, judged, coefficients, out);
+    let places = feed(text, kept + more, line, judged, coefficients, out);
     let end = places.out;
     if print(&out[..end]) == end {
-        return Outcome::Kept(places.text);
+        return Outcome::Kept(places.text, places.line);
     }
     Outcome::Closed
 }
 
-// Turn by turn until the input ends; then the last line, if its newline is missing. The turns are
-// counted down from a number that no run uses up.
+// Turn by turn until the input ends; then the last line, if its newline is missing. The lines are
+// counted from 1, over all turns. The turns are counted down from a number that no run uses up.
 fn run(text: &mut [u8], judged: Judged, coefficients: &[i64], out: &mut [u8])
     requires { ⌜ Buffered (now text) judged (now coefficients) (now out) ⌝ }
 {
     let mut kept = 0;
+    let mut line = 1;
     let mut turns = u64::MAX;
     while turns > 0 {
-        match turn(text, kept, judged, coefficients, out) {
-            Outcome::Kept(size) => {
+        match turn(text, kept, line, judged, coefficients, out) {
+            Outcome::Kept(size, number) => {
                 kept = size;
+                line = number;
             }
             Outcome::Ended => {
-                let end = answer_last(&text[..kept], judged, coefficients, out);
+                let end = answer_last(&text[..kept], line, judged, coefficients, out);
                 print(&out[..end]);
                 return;
             }

@@ -83,7 +83,7 @@ module _ (T : Table) (cs : List ℤ) (t : ℤ) where
       by true i e = let k = kept-reached Tdb (tdbOf T cs t) u e in record { inside = i; valid = k .0; is = k .1 }
       by false i e = nowhere e
 
-  tdb-comes : isInside T t ≡ true → isValid (tdbOf T cs t) ≡ true → Comes (tdbStep T cs t)
+  pub tdb-comes : isInside T t ≡ true → isValid (tdbOf T cs t) ≡ true → Comes (tdbStep T cs t)
   unfolding tdbStep
   tdb-comes inside valid =
       (record { scale = Tdb; tick = tdbOf T cs t }, rw inside (valid-kept Tdb (tdbOf T cs t) valid))
@@ -101,7 +101,7 @@ module _ (T : Table) (cs : List ℤ) (t : ℤ) where
       by true c e = record { covered = c; is = cc }
       by false c e = nowhere e
 
-  tt-comes : isCovered T cs t ≡ true → Comes (ttStep T cs t)
+  pub tt-comes : isCovered T cs t ≡ true → Comes (ttStep T cs t)
   unfolding ttStep
   tt-comes covered = (record { scale = Tt; tick = ttOf T cs t }, rw covered)
 

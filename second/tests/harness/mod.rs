@@ -1,8 +1,10 @@
 //! What the tests of the comparisons share: a stage, and planted differences.
 
-use second::compare::{
-    Answer, Asked, COMPARISONS, Called, Desk, Ledger, Lent, Outcome, Own, Reply, Size, Stage,
-};
+#[path = "../planted/mod.rs"]
+mod planted;
+
+pub use planted::planted;
+use second::compare::{Answer, Asked, COMPARISONS, Called, Desk, Ledger, Lent, Reply, Size, Stage};
 use std::sync::LazyLock;
 
 pub static STAGE: LazyLock<Stage> = LazyLock::new(|| {
@@ -19,25 +21,6 @@ pub fn compared(name: &str, desk: &mut dyn Desk) -> Ledger {
         .find(|c| c.name == name)
         .expect("a comparison");
     comparison.run(desk, &STAGE)
-}
-
-/// Second's own functions, but for the change of what each call did.
-pub struct Planted<F: FnMut(Asked, &Lent, &mut Called)> {
-    own: Own,
-    change: F,
-}
-
-pub fn planted<F: FnMut(Asked, &Lent, &mut Called)>(change: F) -> Planted<F> {
-    let own = Own::default();
-    Planted { own, change }
-}
-
-impl<F: FnMut(Asked, &Lent, &mut Called)> Desk for Planted<F> {
-    fn call(&mut self, asked: Asked, lent: &Lent) -> Outcome {
-        let mut called = self.own.call(asked, lent)?;
-        (self.change)(asked, lent, &mut called);
-        Ok(called)
-    }
 }
 
 #[track_caller]

@@ -3,7 +3,7 @@
 use Prim.Native.Nat.{ℕ, _+_, _-_, _≤_, _<_}
 use Rattle.form.proofs.FreeBytes.{Slot, slot-told, slot-is, free-more, restAt, rest-slot}
 use Rattle.form.specs.Asked.{FreeRun}
-use Rattle.form.specs.Few.{mostDegree}
+use Rattle.granule.specs.Bounds.{mostDegree}
 use Rattle.form.specs.Form.{isFree}
 use borrow.Author.Needs.{needs}
 use borrow.Author.Tests.{not-true, not-false}

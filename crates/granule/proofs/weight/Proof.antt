@@ -13,7 +13,7 @@ use Rattle.granule.specs.Tests.{largest, weightFrom, weightOf}
 use Rattle.granule.proofs.Clauses.{weight-nil, weight-cons}
 use Rattle.granule.proofs.Downward.{drop-past, drop-back, suc-before}
 use Rattle.granule.proofs.Passing.{small-at}
-use Rattle.granule.proofs.Sums.{term-small, weight-bounded}
+use Rattle.granule.proofs.Sums.{mostSquare, term-small, weight-bounded}
 use Rattle.granule.proofs.weight.Statement.{statement}
 use Rattle.granule.proofs.weight.Tie as tie
 
@@ -52,7 +52,8 @@ turned c =
     turn (all c) (o .loop .k) (c .size .result) (o .loop .sum) (c .before .before .loop-test .taken) (o .loop .inv .0) (sized c) (o .loop .inv .1)
 
 -- the term, and the sum with it
-small : (c : tie.After-size Inv-loop μ-loop) → (at c * at c ≤ 225) × (at c * at c * c .size .result ≤ 225 * largest)
+small : (c : tie.After-size Inv-loop μ-loop)
+    → (at c * at c ≤ mostSquare) × (at c * at c * c .size .result ≤ mostSquare * largest)
 small c =
     let o = c .before .before .before in
     let few = o .before .pre .few in

@@ -6,7 +6,8 @@ use Rattle.granules.proofs.Scanning.{Scanned, scanned-none, scanned-nex
 use Rattle.granules.specs.Answers.{testedListed}
 use Rattle.image.proofs.Back.{granule-of-list, granule-width}
 use Rattle.image.proofs.Bounding.{as-natural}
-use Rattle.image.proofs.Slots.{mostCoefficients, room}
+use Rattle.image.proofs.Slots.{room}
+use Rattle.image.specs.Bounds.{mostCoefficients}
 use Rattle.image.specs.Image.{granuleIn}
 use borrow.Author.Needs.{needs}
 use lib.IntN.{ℤ, natAbs}

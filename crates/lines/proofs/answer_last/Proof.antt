@@ -11,7 +11,7 @@ use Rattle.lines.proofs.answer_last.Tie as tie
 returns : tie.Need-returns
 returns c =
     let a = c .before .before .before .args in
-    rw (output-none (a .judged) (a .coefficients .now) (a .text .now) (c .if1 .taken)) (put-nothing (a .out .now))
+    rw (output-none (a .judged) (a .coefficients .now) (a .line) (a .text .now) (c .if1 .taken)) (put-nothing (a .out .now))
 
 answer-line-requires : tie.Need-answer-line-requires
 answer-line-requires c κs = search needs
@@ -26,7 +26,7 @@ returns-2 c =
     let s = test .before .before .before in
     let a = s .args in
     let some : 1 ≤ length (a .text .now) = omega (arith, test .if1 .left) in
-    rw (output-last (a .judged) (a .coefficients .now) (a .text .now) (s .pre .plain) some) (line .answer-line .ensures .put)
+    rw (output-last (a .judged) (a .coefficients .now) (a .line) (a .text .now) (s .pre .plain) some) (line .answer-line .ensures .put)
 
 pub answer-last-spec : {M : Type 1} → statement M
 answer-last-spec = tie.close (tie.spec returns answer-line-requires same-length returns-2)

@@ -1,5 +1,5 @@
 -- `lines::answer_whole` meets its contract. The invariant: the whole lines of the bytes passed are
--- answered. Assumes nothing.
+-- answered and counted. Assumes nothing.
 use borrow.Author.Needs.{needs}
 use borrow.Author.Tests.{ne-eqb}
 use mathlib.Core.Path.{_≡_, refl, sym, _∙_, ap}
@@ -14,35 +14,39 @@ use lib.Seq.{length-take-le, take-suc, take-all, take-add, drop-at}
 use Rattle.blocks.specs.declared.answer.Judged.{Judged}
 use Rattle.printing.specs.Buffers.{longest, TextPut}
 use Rattle.printing.proofs.Filling.{length-kept, then-text}
-use Rattle.lines.specs.Output.{outputOf, wholeLines, unfinished, printedFor}
+use Rattle.line.specs.Lines.{lineRead}
+use Rattle.lines.specs.Output.{linesOf, nextLine, lineAfter, outputFrom, wholeLines, unfinished, printedFor}
 use Rattle.lines.specs.Buffers.{LinesAnswered, Printed}
 use Rattle.lines.proofs.Splits.{whole-short, after-whole, whole-grown, whole-ended}
 use Rattle.lines.proofs.Parts.{put-nothing}
-use Rattle.lines.proofs.Pieces.{output-newline, output-nothing}
+use Rattle.lines.proofs.Pieces.{output-newline, output-nothing, after-newline}
 use Rattle.lines.proofs.answer_whole.Statement.{statement}
 use Rattle.lines.proofs.answer_whole.Tie as tie
 
-record Passed (text : List ℕ) (table : Judged) (coefficients : List ℤ) (out₀ : List ℕ) (out : List ℕ)
-    (start end i : ℕ) : Type 0 where
+record Passed (text : List ℕ) (first : ℕ) (table : Judged) (coefficients : List ℤ) (out₀ : List ℕ) (out : List ℕ)
+    (start end line i : ℕ) : Type 0 where
   inside : i ≤ length text
   begins : start ≡ length (wholeLines (take i text))
-  put : TextPut out₀ 0 (outputOf table coefficients (wholeLines (take i text))) out end
+  put : TextPut out₀ 0 (outputFrom first table coefficients (wholeLines (take i text))) out end
+  next : line ≡ lineAfter first (linesOf (wholeLines (take i text)))
   few : end ≤ longest * start
 
-at-first : (text : List ℕ) (table : Judged) (coefficients : List ℤ) (out : List ℕ)
-    → Passed text table coefficients out out 0 0 0
-unfolding wholeLines
-at-first text table coefficients out =
+at-first : (text : List ℕ) (first : ℕ) (table : Judged) (coefficients : List ℤ) (out : List ℕ)
+    → Passed text first table coefficients out out 0 0 first 0
+unfolding wholeLines linesOf lineAfter
+at-first text first table coefficients out =
     record {
       inside = omega arith;
       begins = refl;
-      put = rw (output-nothing table coefficients) (put-nothing out);
+      put = rw (output-nothing table coefficients first) (put-nothing out);
+      next = refl;
       few = omega arith;
     }
 
 -- the next byte
-module _ {text : List ℕ} {table : Judged} {coefficients : List ℤ} {out₀ out : List ℕ} {start end i : ℕ}
-    (passed : Passed text table coefficients out₀ out start end i) where
+module _ {text : List ℕ} {first : ℕ} {table : Judged} {coefficients : List ℤ} {out₀ out : List ℕ}
+    {start end line i : ℕ}
+    (passed : Passed text first table coefficients out₀ out start end line i) where
   before : start ≤ i
   before = omega (arith, whole-short (take i text), length-take-le i text (passed .inside), passed .begins)
 
@@ -58,8 +62,11 @@ module _ {text : List ℕ} {table : Judged} {coefficients : List ℤ} {out₀ ou
       ∙ after-whole (take i text)
 
   -- at the end
-  at-last : length text ≤ i → LinesAnswered text table coefficients out₀ out (record { text = start; out = end })
-  at-last h = let e : take i text ≡ text = take-all i text h in record { begins = rw e at (passed .begins); put = rw e at (passed .put) }
+  at-last : length text ≤ i
+      → LinesAnswered text first table coefficients out₀ out (record { text = start; out = end; line = line })
+  at-last h =
+      let e : take i text ≡ text = take-all i text h in
+      record { begins = rw e at (passed .begins); put = rw e at (passed .put); next = rw e at (passed .next) }
 
   module _ (room : longest * length text ≤ length out₀) where
     same : length out ≡ length out₀
@@ -72,23 +79,26 @@ module _ {text : List ℕ} {table : Judged} {coefficients : List ℤ} {out₀ ou
       grown : take (i + 1) text ≡ take i text ++ (getD text i 0 ∷ [])
       grown = rw (add-one i) (take-suc text i 0 more)
 
-      on : (getD text i 0 ≡ 10 → ⊥) → Passed text table coefficients out₀ out start end (i + 1)
+      on : (getD text i 0 ≡ 10 → ⊥) → Passed text first table coefficients out₀ out start end line (i + 1)
       on other =
           let w : wholeLines (take (i + 1) text) ≡ wholeLines (take i text) = ap wholeLines grown
           ∙ whole-grown (getD text i 0) (ne-eqb (getD text i 0) 10 other) (take i text) in
-          record { inside = omega arith; begins = rw w (passed .begins); put = rw w (passed .put); few = passed .few }
+          record { inside = omega arith; begins = rw w (passed .begins); put = rw w (passed .put); next = rw w (passed .next); few = passed .few }
 
-      module _ {out' : List ℕ} {next : ℕ} (newline : getD text i 0 ≡ 10)
-          (printed : Printed (take (i - start) (drop start text)) table coefficients out end out' next) where
+      module _ {out' : List ℕ} {next number : ℕ} (newline : getD text i 0 ≡ 10)
+          (printed : Printed (take (i - start) (drop start text)) line table coefficients out end out' next)
+          (follows : number ≡ nextLine line) where
         whole : wholeLines (take (i + 1) text) ≡ wholeLines (take i text ++ (10 ∷ []))
         whole = ap wholeLines (grown ∙ ap (λ (byte : ℕ). take i text ++ (byte ∷ [])) newline)
 
-        text-is : outputOf table coefficients (wholeLines (take (i + 1) text))
-            ≡ outputOf table coefficients (wholeLines (take i text))
-            ++ printedFor table coefficients (take (i - start) (drop start text))
-        text-is = rw line-is (ap (outputOf table coefficients) whole ∙ output-newline table coefficients (take i text))
+        text-is : outputFrom first table coefficients (wholeLines (take (i + 1) text))
+            ≡ outputFrom first table coefficients (wholeLines (take i text))
+            ++ printedFor table coefficients (lineRead (take (i - start) (drop start text)) line)
+        text-is =
+            rw (line-is, passed .next)
+            (ap (outputFrom first table coefficients) whole ∙ output-newline table coefficients first (take i text))
 
-        ended : Passed text table coefficients out₀ out' (i + 1) next (i + 1)
+        ended : Passed text first table coefficients out₀ out' (i + 1) next number (i + 1)
         ended = record {
           inside = omega arith;
           begins =
@@ -98,17 +108,22 @@ module _ {text : List ℕ} {table : Judged} {coefficients : List ℤ} {out₀ ou
               ∙ ap (λ (n : ℕ). n + 1) (length-take-le i text (passed .inside)));
           put =
               rw text-is (then-text (passed .put) (printed .put) (omega (arith, before, passed .few, passed .put .after, printed .put .after, printed .short)));
+          next =
+              follows
+              ∙ ap nextLine (passed .next)
+              ∙ sym (ap (λ (l : List ℕ). lineAfter first (linesOf l)) whole ∙ after-newline table coefficients first (take i text));
           few = omega (arith, before, passed .few, printed .short);
         }
 
 abbrev Inv-loop : tie.InvT-loop
-Inv-loop text judged coefficients out₀ start₀ end₀ i₀ out start end i = Passed text judged coefficients out₀ out start end i
+Inv-loop text first judged coefficients out₀ start₀ end₀ line₀ i₀ out start end line i =
+    Passed text first judged coefficients out₀ out start end line i
 
 abbrev μ-loop : tie.MeasureT-loop
-μ-loop text judged coefficients out₀ start₀ end₀ i₀ out start end i = length text - i
+μ-loop text first judged coefficients out₀ start₀ end₀ line₀ i₀ out start end line i = length text - i
 
 loop-holds : tie.Need-loop-holds Inv-loop μ-loop
-loop-holds c = at-first _ _ _ _
+loop-holds c = at-first _ _ _ _ _
 
 shared-slice-read-if1 : tie.Need-shared-slice-read-if1 Inv-loop μ-loop
 shared-slice-read-if1 c = omega arith
@@ -130,6 +145,9 @@ answer-line-requires c κs =
       room = ready (c .before .before .before .before .before .loop .inv) (pre .room) (c .before .before .before .before .loop-test .taken);
     }
 
+next-line-requires : tie.Need-next-line-requires Inv-loop μ-loop
+next-line-requires c κs = tt
+
 add-start : tie.Need-add-start Inv-loop μ-loop
 add-start c = search needs
 
@@ -144,7 +162,8 @@ loop-again c =
     let p = c .before .before .before .loop .inv in
     let room = c .before .before .before .before .before .before .pre .room in
     let more = c .before .before .loop-test .taken in
-    ⊎-elim (λ w. rw (w .6, w .7, w .8) (ended p room more (w .0 .taken) (w .3 .ensures))) (λ w. rw (w .1, w .2, w .3) (on p room more (w .0 .left)))
+    ⊎-elim (λ w. rw (w .7, w .8, w .9, w .10) (ended p room more (w .0 .taken) (w .3 .ensures) (w .6 .ensures)))
+    (λ w. rw (w .1, w .2, w .3, w .4) (on p room more (w .0 .left)))
     (c .if1 .came)
 
 same-length : tie.Need-same-length Inv-loop μ-loop
@@ -165,6 +184,7 @@ answer-whole-spec =
     part-answer-line-start
     part-answer-line-end
     answer-line-requires
+    next-line-requires
     add-start
     add-i
     loop-less

@@ -48,7 +48,7 @@ returns c =
     let text = take (s .args .filled) (s .args .text .now) in
     let e : drop (whole .answer-whole .result .text) text ≡ unfinished text = ap (λ (n : ℕ). drop n text) (whole .answer-whole .ensures .begins)
     ∙ after-whole text in
-    record { kept = rw e at (kept .keep .ensures); put = whole .answer-whole .ensures .put }
+    record { kept = rw e at (kept .keep .ensures); put = whole .answer-whole .ensures .put; next = whole .answer-whole .ensures .next }
 
 pub feed-spec : {M : Type 1} → statement M
 feed-spec =

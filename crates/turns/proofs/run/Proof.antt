@@ -18,23 +18,24 @@ use Rattle.turns.proofs.run.Statement.{statement}
 use Rattle.turns.proofs.run.Tie as tie
 
 -- the buffers keep their lengths, and an unfinished line is at the front
-record Turned (text₀ out₀ : List ℕ) (judged : Judged) (coefficients : List ℤ) (text : List ℕ) (kept : ℕ)
+record Turned (text₀ out₀ : List ℕ) (judged : Judged) (coefficients : List ℤ) (text : List ℕ) (kept line : ℕ)
     (out : List ℕ) : Type 0 where
-  waiting : Waiting text kept judged coefficients out
+  waiting : Waiting text kept line judged coefficients out
   textLong : length text ≡ length text₀
   outLong : length out ≡ length out₀
 
 abbrev Inv-loop : tie.InvT-loop
-Inv-loop text₀ judged coefficients out₀ kept₀ turns₀ text out kept turns = Turned text₀ out₀ judged coefficients text kept out
+Inv-loop text₀ judged coefficients out₀ kept₀ line₀ turns₀ text out kept line turns =
+    Turned text₀ out₀ judged coefficients text kept line out
 
 abbrev μ-loop : tie.MeasureT-loop
-μ-loop text₀ judged coefficients out₀ kept₀ turns₀ text out kept turns = turns
+μ-loop text₀ judged coefficients out₀ kept₀ line₀ turns₀ text out kept line turns = turns
 
 loop-holds : tie.Need-loop-holds Inv-loop μ-loop
 loop-holds c =
     let s = c .before .before in
     record {
-      waiting = record { buffers = s .pre; front = front-nothing (s .args .text .now) };
+      waiting = record { buffers = s .pre; front = front-nothing (s .args .text .now) _ (omega arith) };
       textLong = refl;
       outLong = refl;
     }
@@ -62,11 +63,11 @@ module _ (t : tie.After-slice-known4 Inv-loop μ-loop) where
   text-same : length (turned .turn .last .0) ≡ length (loop .loop .text)
   text-same = t .before .before .before .text .given
 
-  out-same : length (turned .turn .last .1 .1 .1 .1 .0) ≡ length (loop .loop .out)
+  out-same : length (turned .turn .last .1 .1 .1 .1 .1 .0) ≡ length (loop .loop .out)
   out-same = t .before .out .given
 
   buffers : Buffered (turned .turn .last .0) (start .args .judged) (start .args .coefficients .now)
-      (turned .turn .last .1 .1 .1 .1 .0)
+      (turned .turn .last .1 .1 .1 .1 .1 .0)
   buffers =
       let b = loop .loop .inv .waiting .buffers in
       record {
@@ -74,12 +75,14 @@ module _ (t : tie.After-slice-known4 Inv-loop μ-loop) where
         large = record { long = omega (arith, b .large .long, text-same); room = omega (arith, b .large .room, text-same, out-same) };
       }
 
-  left : (outcome : Outcome) → turned .turn .result ≡ outcome → Left (loop .loop .kept) (turned .turn .last .0) outcome
-  left outcome is = subst (Left (loop .loop .kept) (turned .turn .last .0)) is (turned .turn .ensures)
+  left : (outcome : Outcome) → turned .turn .result ≡ outcome
+      → Left (loop .loop .kept) (loop .loop .line) (turned .turn .last .0) outcome
+  left outcome is = subst (Left (loop .loop .kept) (loop .loop .line) (turned .turn .last .0)) is (turned .turn .ensures)
 
 -- at the end of the input
 last-front : (e : tie.After-enum-told Inv-loop μ-loop)
     → Front (turned (e .before .before) .turn .last .0) (loop (e .before .before) .loop .kept)
+    (loop (e .before .before) .loop .line)
 last-front e = left (e .before .before) Ended (e .enum-told .given .1)
 
 slice-reshare-prefix-answer-last : tie.Need-slice-reshare-prefix-answer-last Inv-loop μ-loop
@@ -92,7 +95,12 @@ answer-last-requires : tie.Need-answer-last-requires Inv-loop μ-loop
 answer-last-requires c κs =
     let e = c .before .before in
     let b = buffers (e .before .before) in
-    record { lent = b .lent; plain = last-front e .plain; room = omega (arith, b .large .long, b .large .room) }
+    record {
+      counted = last-front e .counted;
+      lent = b .lent;
+      plain = last-front e .plain;
+      room = omega (arith, b .large .long, b .large .room);
+    }
 
 slice-reshare-prefix-print : tie.Need-slice-reshare-prefix-print Inv-loop μ-loop
 slice-reshare-prefix-print c = put-inside (c .before .before .answer-last .ensures)
@@ -135,7 +143,7 @@ loop-again c =
     let t = c .before .before .before in
     let inv = loop t .loop .inv in
     record {
-      waiting = record { buffers = buffers t; front = left t (Kept _) (c .before .size .given .1) };
+      waiting = record { buffers = buffers t; front = left t (Kept _ _) (c .before .size .given .1) };
       textLong = text-same t ∙ inv .textLong;
       outLong = out-same t ∙ inv .outLong;
     }

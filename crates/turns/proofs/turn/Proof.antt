@@ -47,8 +47,9 @@ module _ (c : tie.After-slice-known3) where
       (putMid (start .args .kept) (length (start .args .text .now) - start .args .kept) (start .args .text .now)
       (read .read-input .last .0))
       (start .args .kept)
+      (start .args .line)
   stays =
-      front-stays (start .args .text .now) (read .read-input .last .0) (start .args .kept) (kept-inside start)
+      front-stays (start .args .text .now) (read .read-input .last .0) (start .args .kept) (start .args .line) (kept-inside start)
       (start .pre .front)
 
 same-length : tie.Need-same-length
@@ -65,7 +66,12 @@ feed-requires c κs =
     let k = c .before .before .before in
     let b = start k .pre .buffers in
     let same = k .before .text .given .1 in
-    record { lent = b .lent; inside = omega (arith, within k, same); room = omega (arith, b .large .room, same) }
+    record {
+      counted = start k .pre .front .counted;
+      lent = b .lent;
+      inside = omega (arith, within k, same);
+      room = omega (arith, b .large .room, same);
+    }
 
 slice-reshare-prefix-print : tie.Need-slice-reshare-prefix-print
 slice-reshare-prefix-print c = put-inside (c .before .before .before .before .feed .ensures .put)
@@ -83,7 +89,10 @@ same-length-3 : tie.Need-same-length-3
 same-length-3 c = search needs
 
 returns-2 : tie.Need-returns-2
-returns-2 c = front-kept _ (c .before .before .before .before .before .before .before .feed .ensures .kept)
+returns-2 c =
+    let fed = c .before .before .before .before .before .before .before in
+    let counted = start (fed .before .before .before .before) .pre .front .counted in
+    front-kept _ (fed .feed .ensures .kept) counted (fed .feed .ensures .next)
 
 same-length-4 : tie.Need-same-length-4
 same-length-4 c = search needs

@@ -1,6 +1,6 @@
 -- `ephemeris::earliest::earliest_place` meets its contract. The loop's invariant: after each turn
 -- the place is as near to the earliest tick as `Closing` says. The measure is the turns that are
--- left of four. Assumes nothing.
+-- left of two. Assumes nothing.
 use borrow.Author.Needs.{needs}
 use mathlib.Core.Path.{_≡_, sym, _∙_}
 use Prim.Native.Nat.{_+_, _-_, _≤_, zero-le}
@@ -16,10 +16,10 @@ use Rattle.ephemeris.proofs.earliest.earliest_place.Statement.{statemen
 use Rattle.ephemeris.proofs.earliest.earliest_place.Tie as tie
 
 abbrev Inv-loop : tie.InvT-loop
-Inv-loop table coefficients asked place₀ turns₀ place turns = (turns ≤ 4) × NearEarliest table coefficients (asked .0) place (reachAfter turns)
+Inv-loop table coefficients asked place₀ turns₀ place turns = (turns ≤ 2) × NearEarliest table coefficients (asked .0) place (reachAfter turns)
 
 abbrev μ-loop : tie.MeasureT-loop
-μ-loop table coefficients asked place₀ turns₀ place turns = 4 - turns
+μ-loop table coefficients asked place₀ turns₀ place turns = 2 - turns
 
 -- D at the place, and what it points to
 delay-is : (c : tie.After-delay-at Inv-loop μ-loop) → let s = c .before .before .before .before in
@@ -42,8 +42,8 @@ settled : (c : tie.After-loop Inv-loop μ-loop) → let s = c .before .before .b
 settled c =
     let l = c .before in
     let s = l .before .before in
-    let four : l .loop .turns ≡ 4 = omega (arith, l .loop .inv .0, c .loop-test .left) in
-    near-last (s .args .table) (s .args .coefficients .now) (s .pre .accepted) (s .args .asked .0) (l .loop .place) (rw four at (l .loop .inv .1))
+    let two : l .loop .turns ≡ 2 = omega (arith, l .loop .inv .0, c .loop-test .left) in
+    near-last (s .args .table) (s .args .coefficients .now) (s .pre .accepted) (s .args .asked .0) (l .loop .place) (rw two at (l .loop .inv .1))
 
 pointed-requires : tie.Need-pointed-requires Inv-loop μ-loop
 pointed-requires c κs = record { bounds = c .pre .accepted .bounds; movable = record { near = c .pre .near; little = zero-le } }

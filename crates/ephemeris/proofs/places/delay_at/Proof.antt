@@ -14,6 +14,7 @@ use Rattle.numbers.proofs.Machine.{read, read-is}
 use Rattle.granule.specs.Rule.{delayOf, valueAt, delayAt}
 use Rattle.granule.specs.Asked.{Evaluable}
 use Rattle.image.specs.declared.table.Table.{Table}
+use Rattle.image.specs.Bounds.{mostCoefficients}
 use Rattle.image.specs.Image.{granuleIn}
 use Rattle.ephemeris.specs.Table.{lastPlace, granuleOf, placeIn, tableDelay}
 use Rattle.ephemeris.specs.Asked.{Placed}
@@ -48,7 +49,7 @@ safe T cs i p =
     let g = granuleOf T i in
     let a = at T B i (p .inside) in
     let end : fromOf T g + (T .degree + 1) ≤ length cs = omega (arith, A .whole, mul-le-mul-right (T .degree + 1) (a .there)) in
-    let all : length cs ≤ 5760 = omega (arith, A .whole, mul-le-mul-right (T .degree + 1) (B .few .granules), B .few .degree) in
+    let all : length cs ≤ mostCoefficients = omega (arith, A .whole, mul-le-mul-right (T .degree + 1) (B .few .granules), B .few .degree) in
     let part : fromOf T g + (T .degree + 1) - fromOf T g ≡ T .degree + 1 = omega arith in
     record {
       from = record { fits = omega arith };

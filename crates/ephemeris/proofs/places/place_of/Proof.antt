@@ -1,7 +1,7 @@
 -- `ephemeris::places::place_of` meets its contract: the tick is inside the table, so the difference
 -- is one of its places. Assumes nothing.
 use mathlib.Core.Path.{_≡_}
-use Prim.Native.Nat.{_*_, _^_, _≤_}
+use Prim.Native.Nat.{_*_, _≤_}
 use native.Mathlib.Omega.{arith}
 use lib.Dec.{T}
 use lib.IntN.{ℤ, _-ℤ_, natAbs}
@@ -10,6 +10,8 @@ use mir.Syntax.{w64}
 use mir.Val.{Fits, SFits}
 use Rattle.numbers.proofs.Order.{0≤-}
 use Rattle.numbers.proofs.Machine.{read, read-is, fits-small}
+use Rattle.granule.specs.Bounds.{longestLength}
+use Rattle.form.specs.Few.{mostGranules}
 use Rattle.image.specs.declared.table.Table.{Table}
 use Rattle.ephemeris.specs.Table.{S, placeOf}
 use Rattle.ephemeris.specs.Asked.{TickInside}
@@ -28,8 +30,8 @@ safe : (T : Table) (t : ℤ) → TickInside T t → SFits w64 t → Safe T t
 unfolding placeOf
 safe T t p f =
     let B = p .bounds in
-    let small : natAbs (t -ℤ S T) ≤ 360 * 2 ^ 50 = omega (arith, placed T t (p .inside), last-small T B) in
-    let fits = fits-small (t -ℤ S T) (360 * 2 ^ 50) small (omega arith) in
+    let small : natAbs (t -ℤ S T) ≤ mostGranules * longestLength = omega (arith, placed T t (p .inside), last-small T B) in
+    let fits = fits-small (t -ℤ S T) (mostGranules * longestLength) small (omega arith) in
     let low = 0≤- (S T) t (inside-both T t (p .inside) .0) in
     record {
       sub = rw (read-is t f, start-is T B) fits;

@@ -1,7 +1,7 @@
 -- `image::bounds::bounded` meets its contract: each way out is one bound broken, the bounds before
 -- it kept. Assumes nothing.
 use Rattle.image.proofs.Bounding.{high-degree, too-short, too-long, none, too-many, start-outside, end-told, span-fits, end-fits}
-use Rattle.image.specs.Bounds.{shortestLength, longestLength}
+use Rattle.granule.specs.Bounds.{shortestLength, longestLength}
 use Rattle.image.specs.declared.table.Table.{Table}
 use Rattle.numbers.proofs.Machine.{lt-no}
 use Rattle.scales.specs.Tick.{isValid}

@@ -2,7 +2,8 @@
 -- nothing.
 use Prim.Native.Nat.{_+_, _*_, _-_, _%_, _≤_, _<_}
 use Rattle.form.proofs.FreeBytes.{Slot, slot-told}
-use Rattle.image.proofs.Slots.{index, mostCoefficients, room}
+use Rattle.image.proofs.Slots.{index, room}
+use Rattle.image.specs.Bounds.{mostCoefficients}
 use Rattle.form.specs.Form.{granuleAt, whichAt}
 use Rattle.image.specs.Image.{coefficientByte}
 use Rattle.words.specs.Words.{byteOf}

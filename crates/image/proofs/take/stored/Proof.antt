@@ -1,14 +1,12 @@
 -- `image::take::stored` meets its contract. Each coefficient taken so far is the one stored there.
 -- Assumes nothing.
 use Prim.Native.Nat.{ℕ, _+_, _-_, _≤_, _<_, zero-le}
-use Rattle.numbers.proofs.Places.{is-upTo}
+use Rattle.numbers.proofs.Places.{is-upTo, written-more}
 use Rattle.image.proofs.Slots.{stored-fits}
-use Rattle.image.proofs.Stores.{not-same}
 use Rattle.image.specs.Image.{storedAt, coefficientAt, storedOf}
-use borrow.Author.Count.{below-none, below-more}
+use borrow.Author.Count.{below-none}
 use lib.IntN.{pos}
-use lib.ListN.{length, getD, set, length-set}
-use lib.Seq.{getD-set-same, getD-set-other}
+use lib.ListN.{length, getD, length-set}
 use mathlib.Core.Path.{_≡_, refl, _∙_}
 use mir.Syntax.{w64}
 use mir.ValLaws.{toZ-ofZ}
@@ -78,9 +76,8 @@ loop-again c =
     let z = c .number-at .result in (
       omega arith,
       simp length-set (l .inv .1),
-      below-more (λ j. getD (set (l .coefficients) (l .m) _) j (pos 0) ≡ coefficientAt (s .bytes .now) (s .granule) j) (l .m)
-          (λ j h. getD-set-other (l .coefficients) (l .m) j _ (pos 0) (not-same h) ∙ l .inv .2 j h)
-          (getD-set-same (l .coefficients) (l .m) _ (pos 0) (omega arith) ∙ toZ-ofZ w64 z (record { sfits = c .number-at .ok }) ∙ c .number-at .ensures),
+      written-more (l .coefficients) (l .m) _ (pos 0) (λ j. coefficientAt (s .bytes .now) (s .granule) j) (omega arith) (l .inv .2)
+          (toZ-ofZ w64 z (record { sfits = c .number-at .ok }) ∙ c .number-at .ensures),
     )
 
 returns : tie.Need-returns Inv-loop μ-loop

@@ -1,16 +1,14 @@
 -- `image::take::take_coefficients` meets its contract. Each coefficient taken so far is the one
 -- stored for its granule. Assumes nothing.
 use Prim.Native.Nat.{ℕ, _+_, _*_, _-_, _/_, _%_, _≤_, _<_, zero-le}
-use Rattle.numbers.proofs.Places.{is-upTo}
+use Rattle.numbers.proofs.Places.{is-upTo, written-more}
 use Rattle.image.proofs.Slots.{place-fits}
-use Rattle.image.proofs.Stores.{not-same}
 use Rattle.form.specs.Form.{blocksOf}
 use Rattle.image.specs.Image.{storedAt, coefficientAt, coefficientsStored}
-use borrow.Author.Count.{below-none, below-more}
+use borrow.Author.Count.{below-none}
 use borrow.Author.Needs.{needs}
 use lib.IntN.{pos}
-use lib.ListN.{length, getD, set, length-set}
-use lib.Seq.{getD-set-same, getD-set-other}
+use lib.ListN.{length, getD, length-set}
 use mathlib.Core.Path.{_≡_, refl, _∙_}
 use mir.Syntax.{w64}
 use mir.ValLaws.{toZ-ofZ}
@@ -94,12 +92,12 @@ unfolding coefficientAt
 loop-again c =
     let l = c .before .before .loop in
     let s = c .before .before .before .before .args in
-    let z = c .number-at .result in (
+    let z = c .number-at .result in
+    let at = coefficientAt (s .bytes .now) in (
       simp length-set (omega arith),
       simp length-set (l .inv .1),
-      below-more (λ j. getD (set (l .coefficients) (l .i) _) j (pos 0) ≡ coefficientAt (s .bytes .now) (j / (s .degree + 1)) (j % (s .degree + 1))) (l .i)
-          (λ j h. getD-set-other (l .coefficients) (l .i) j _ (pos 0) (not-same h) ∙ l .inv .2 j h)
-          (getD-set-same (l .coefficients) (l .i) _ (pos 0) (slice-set-from-c c) ∙ toZ-ofZ w64 z (record { sfits = c .number-at .ok }) ∙ c .number-at .ensures),
+      written-more (l .coefficients) (l .i) _ (pos 0) (λ j. at (j / (s .degree + 1)) (j % (s .degree + 1))) (slice-set-from-c c) (l .inv .2)
+          (toZ-ofZ w64 z (record { sfits = c .number-at .ok }) ∙ c .number-at .ensures),
     )
 
 same-length : tie.Need-same-length Inv-loop μ-loop

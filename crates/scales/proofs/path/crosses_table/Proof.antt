@@ -5,13 +5,12 @@ use mathlib.Core.Path.{_≡_, refl}
 use mathlib.Core.Bool.{not, Bool·beq}
 use Rattle.scales.specs.declared.scale.Scale.{Scale}
 use Rattle.scales.specs.Path.{barycentric, crosses}
-use Rattle.scales.proofs.Paths.{each}
+use Rattle.scales.proofs.Every.{every-two}
 use Rattle.scales.proofs.path.crosses_table.Statement.{statement}
 use Rattle.scales.proofs.path.crosses_table.Tie as tie
 
 sides : (from to : Scale) → not (Bool·beq (barycentric from) (barycentric to)) ≡ crosses from to
-sides = each _ (each _ refl refl refl refl refl refl) (each _ refl refl refl refl refl refl) (each _ refl refl refl refl refl refl)
-    (each _ refl refl refl refl refl refl) (each _ refl refl refl refl refl refl) (each _ refl refl refl refl refl refl)
+sides = every-two (λ from to. not (Bool·beq (barycentric from) (barycentric to))) crosses refl
 
 beyond-table-requires : tie.Need-beyond-table-requires
 beyond-table-requires c κs = search needs

@@ -1,26 +1,16 @@
 -- `scales::scale::is_code` meets its contract. Assumes nothing.
 use borrow.Author.Needs.{needs}
+use lib.Dec.{leb}
+use mathlib.Core.Path.{ap}
+use Prim.Native.Nat.{ℕ}
 use Rattle.scales.proofs.scale.is_code.Statement.{statement}
 use Rattle.scales.proofs.scale.is_code.Tie as tie
 
-enum-told : tie.Need-enum-told
-enum-told c = search needs
-
-enum-told-2 : tie.Need-enum-told-2
-enum-told-2 c = search needs
-
-enum-told-3 : tie.Need-enum-told-3
-enum-told-3 c = search needs
+highest-code-requires : tie.Need-highest-code-requires
+highest-code-requires c κs = search needs
 
 returns : tie.Need-returns
-returns c = rw (c .enum-told .given .1)
-
-returns-2 : tie.Need-returns-2
-returns-2 c = rw (c .enum-told2 .given .1)
-
-returns-3 : tie.Need-returns-3
-returns-3 c = rw (c .enum-told3 .given .1)
+returns c = ap (λ (highest : ℕ). leb (c .before .args .code) highest) (c .highest-code .ensures)
 
 pub is-code-spec : {M : Type 1} → statement M
-is-code-spec =
-    tie.close (tie.spec enum-told enum-told-2 enum-told-3 returns returns-2 returns-3)
+is-code-spec = tie.close (tie.spec highest-code-requires returns)
