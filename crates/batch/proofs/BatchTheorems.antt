@@ -5,7 +5,7 @@ use mathlib.Core.List.{List, [], _∷_}
 use Prim.Native.Nat.{ℕ, _<_}
 use native.Mathlib.Nat.{zero-add, not-suc-le-zero}
 use native.Mathlib.Omega.{arith}
-use borrow.Author.Tests.{eqb-true, eq-eqb, ne-eqb}
+use borrow.Author.Tests.{eqb-true, eq-eqb}
 use lib.Dec.{eqb}
 use lib.IntN.{ℤ, pos}
 use lib.ListN.{length, getD}
@@ -17,7 +17,7 @@ use Rattle.scales.specs.declared.refusal.Refusal.{Refusal}
 use Rattle.scales.specs.declared.scale.Purpose.the-variants as P
 use Rattle.scales.specs.Answers.{answerTick}
 use Rattle.scales.specs.Path.{steps}
-use Rattle.scales.specs.Scales.{isCode, named}
+use Rattle.scales.specs.Scales.{named}
 use Rattle.blocks.specs.Judging.{judged}
 use Rattle.dates.specs.declared.reading.Reading.the-variants.{Ticks}
 use Rattle.entries.specs.declared.batched.Batched.{Batched}
@@ -46,16 +46,6 @@ check-accepted : (check : Check) (batched : Batched) {n : ℕ} → batchSettled 
     → (check ≡ passes) × (batched ≡ Converted n)
 check-accepted passes batched e = (refl, e)
 check-accepted (refuses refusal) batched e = never-both refl e
-
--- an empty batch is refused where every conversion is, with the same refusal
-check-empty : (check : Check) (entry : ℤ → Answer) (many : ℕ) {refusal : Refusal} {index : ℕ}
-    → batchSettled check (triedOf entry many 0 []) ≡ Refused refusal index
-    → (index ≡ 0) × ((tick : ℤ) → answering check (entry tick) ≡ Answer.Refused refusal)
-unfolding triedOf
-check-empty passes entry many e = never-both e refl
-check-empty (refuses first) entry many {refusal} e =
-    let same : first ≡ refusal = cc in
-    (cc, λ tick. ap Answer.Refused same)
 
 -- a conversion's answer as that of a batch
 abbrev pub alone : Answer → Batched
@@ -90,12 +80,6 @@ module _ (from to : ℕ) (bytes : List ℕ) where
   batch-refused ticks many {refusal} long some e =
       let told = tried-refused conversion _ 0 ticks (sym (batch-tried ticks many long some) ∙ e) in
       subst (FirstRefused conversion ticks refusal) (sym (told .1 ∙ zero-add (told .0))) (told .2)
-
-  -- 'An empty batch still gets checks 1, 8 and the table', with index 0
-  pub empty-refused : {refusal : Refusal} {index : ℕ} → batchOf from to [] 0 bytes ≡ Refused refusal index
-      → (index ≡ 0) × ((tick : ℤ) → conversion tick ≡ Answer.Refused refusal)
-  unfolding batchOf convertOf convertJudged settled
-  empty-refused e = check-empty (settled P.Reading from to true (judged bytes)) entry many-steps e
 
   module _ (ticks : List ℤ) (many : ℕ) {n : ℕ} (accepted : batchOf from to ticks many bytes ≡ Converted n) where
     was-settled : (settled P.Batch from to (eqb (length ticks) many) (judged bytes) ≡ passes)
@@ -147,12 +131,6 @@ module _ (from to : ℕ) (bytes : List ℕ) where
       go (Refused refusal index) e =
           let first = batch-refused ticks many long some e in
           not-both (first .refuses) (all index (first .inside) .2)
-
-  -- '8: lent lengths don't fit', after 1
-  pub unfit-refused : (ticks : List ℤ) (many : ℕ) → isCode P.Batch from ≡ true → isCode P.Batch to ≡ true
-      → (length ticks ≡ many → ⊥) → batchOf from to ticks many bytes ≡ Refused (record { number = 8; place = 0 }) 0
-  unfolding batchOf settled
-  unfit-refused ticks many begins ends unfit = rw (ne-eqb _ _ unfit, begins, ends)
 
   -- a batch of one is the conversion of that one
   pub batch-of-one : (tick : ℤ) → batchOf from to (tick ∷ []) 1 bytes ≡ alone (conversion tick)

@@ -1,7 +1,7 @@
 -- The lines' numbers: line k of an input is read as line k, and is refused with 9 and place k where
 -- it is not understood. Assumes nothing.
 use borrow.Author.Tests.{lt-ltb, le-ltb}
-use mathlib.Core.Path.{_≡_, refl, sym, _∙_, ap}
+use mathlib.Core.Path.{_≡_, refl, _∙_, ap}
 use mathlib.Core.Bool.{true, false}
 use mathlib.Core.List.{List, [], _∷_, _++_, map}
 use mathlib.Core.Option.{Option, some, none}
@@ -12,7 +12,7 @@ use lib.IntN.{ℤ}
 use lib.ListN.{length, getD}
 use Rattle.scales.specs.declared.refusal.Refusal.{Refusal}
 use Rattle.line.specs.declared.reading.Line.{Line}
-use Rattle.line.specs.declared.reading.Line.the-variants.{Numbers, Refused}
+use Rattle.line.specs.declared.reading.Line.the-variants.{Refused}
 use Rattle.line.specs.Numbers.{numberIn}
 use Rattle.line.specs.Lines.{fields, threeNumbers, notUnderstood, lineRead}
 use Rattle.line.proofs.Cases.{either}
@@ -106,11 +106,3 @@ unfolding lineRead
 not-understood text line refusal e = either (leb (length text) 64)
     (λ (h : leb (length text) 64 ≡ true). numbers-refused (map numberIn (fields text)) line refusal (rw h at e))
     (λ (h : leb (length text) 64 ≡ false). let f : notUnderstood line ≡ Refused refusal = rw h at e in cc)
-
--- line k of an input, where it is not understood, is refused with 9 and place k
-pub line-refused : (input : List ℕ) (before : ℕ) (other : Line) (refusal : Refusal)
-    → before < length (linesOf input) → before < greatestLine
-    → getD (linesRead input) before other ≡ Refused refusal
-    → refusal ≡ record { number = 9; place = suc before }
-line-refused input before other refusal h k e =
-    not-understood (getD (linesOf input) before []) (suc before) refusal (sym (line-read input before other h k) ∙ e)

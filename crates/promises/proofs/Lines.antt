@@ -1,10 +1,12 @@
 -- What a line is answered with, by number and place: 'A code outside 0..6 is refusal 1, after 9.'
 -- Assumes nothing.
-use mathlib.Core.Path.{_≡_, refl, sym, _∙_, ap}
-use mathlib.Core.List.{List}
-use Prim.Native.Nat.{ℕ, _≤_, _<_}
+use mathlib.Core.Path.{_≡_, refl}
+use mathlib.Core.Bool.{true}
+use mathlib.Core.List.{List, []}
+use Prim.Native.Nat.{ℕ, suc, _≤_, _<_}
 use native.Mathlib.Omega.{arith}
 use lib.IntN.{ℤ, pos}
+use lib.ListN.{length, getD}
 use Rattle.scales.specs.declared.answer.Answer.{Answer}
 use Rattle.scales.specs.declared.scale.Purpose.the-variants as P
 use Rattle.scales.specs.Answers.{answerNumber, answerPlace}
@@ -18,7 +20,10 @@ use Rattle.line.specs.declared.reading.Line.{Line}
 use Rattle.line.specs.declared.reading.Line.the-variants.{Numbers, Refused}
 use Rattle.line.specs.Answers.{lineNumber, linePlace, lineFrom, lineTo, lineTick}
 use Rattle.line.specs.Lines.{lineRead}
-use Rattle.lines.specs.Output.{answerOf}
+use Rattle.line.specs.Numbers.{fitsSigned}
+use Rattle.printing.specs.Texts.{answerText}
+use Rattle.printing.proofs.Returning.{line-back}
+use Rattle.lines.specs.Output.{linesOf, greatestLine, linesRead, answerOf}
 use Rattle.lines.proofs.Answers as lines
 use Rattle.lines.proofs.Numbering as numbering
 
@@ -47,6 +52,21 @@ module _ (text : List ℕ) (line : ℕ) where
           let nine : refusal .number ≡ 9 = rw (numbering.not-understood text line refusal e) in
           let no : ⊥ = omega arith in
           absurd no
+
+-- ---- 'place: line, from 1': line k of an input, where it is not understood, is 9 with place k
+pub place-of-9 : (input : List ℕ) (before : ℕ) (other : Line) → before < length (linesOf input) → before < greatestLine
+    → let line = getD (linesRead input) before other in
+    0 < lineNumber line → (lineNumber line ≡ 9) × (linePlace line ≡ suc before)
+place-of-9 input before other h k =
+    rw (numbering.line-read input before other h k) (read-refused (getD (linesOf input) before []) (suc before))
+
+-- ---- a printed answer's line reads back as its three numbers
+pub printed-back : (to tick : ℤ) (steps line : ℕ) → fitsSigned to ≡ true → fitsSigned tick ≡ true
+    → fitsSigned (pos steps) ≡ true
+    → let read = lineRead (answerText to tick steps) line in
+    (lineNumber read ≡ 0) × (lineFrom read ≡ to) × (lineTo read ≡ tick) × (lineTick read ≡ pos steps)
+unfolding lineNumber lineFrom lineTo lineTick
+printed-back to tick steps line a b c = rw (line-back to tick steps line a b c) (refl, refl, refl, refl)
 
 -- ---- a line's answer over judged table bytes and the coefficients that they hold
 module _ (table : Judged) (coefficients : List ℤ) (text : List ℕ) (line : ℕ) where

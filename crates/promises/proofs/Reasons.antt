@@ -57,11 +57,6 @@ pub data Ended (kept : Kept) (cs : List ℤ) (p : List Step) (already : ℕ) (st
       → Ended kept cs p already start r
 
 -- in a conversion
-abbrev pub StoppedBetween : ℕ → ℕ → List ℕ → ℤ → ℕ → Stepped → Type 0
-StoppedBetween from to bytes tick done by =
-    Stopped (tableIn bytes) (coefficientsIn bytes) (path (named from) (named to)) 0
-    (startOf from tick) done by
-
 abbrev pub EndedBetween : ℕ → ℕ → List ℕ → ℤ → Refusal → Type 0
 EndedBetween from to bytes tick r =
     Ended (tableIn bytes) (coefficientsIn bytes) (path (named from) (named to)) 0

@@ -2,7 +2,7 @@
 -- from it the walk over the path between the two scales, over what the table bytes hold. Assumes
 -- nothing.
 use mathlib.Core.Path.{_≡_, refl, sym, _∙_, ap, subst}
-use mathlib.Core.Bool.{Bool, true, false, cond, not}
+use mathlib.Core.Bool.{Bool, true, false, cond}
 use mathlib.Core.List.{List, [], _∷_}
 use Prim.Native.Nat.{ℕ, suc, _≤_, _<_}
 use native.Mathlib.Omega.{arith}
@@ -16,7 +16,6 @@ use Rattle.scales.specs.declared.path.Step.{Step}
 use Rattle.scales.specs.declared.scale.Purpose.the-variants as P
 use Rattle.scales.specs.declared.scale.Scale.{Scale}
 use Rattle.scales.specs.Path.{crosses}
-use Rattle.scales.specs.Tick.{isValid}
 use Rattle.scales.proofs.Paths.{Leads}
 use Rattle.scales.proofs.Reached.{same-scale}
 use Rattle.image.specs.declared.table.Table.{Table}
@@ -29,9 +28,7 @@ use Rattle.ephemeris.specs.Accepted.{Accepted}
 use Rattle.dates.specs.declared.reading.Read.{Read}
 use Rattle.dates.specs.declared.reading.Read.the-variants as R
 use Rattle.dates.specs.declared.reading.Reading.{Reading}
-use Rattle.dates.specs.declared.reading.Reading.the-variants.{Ticks}
-use Rattle.dates.specs.Readings.{inRange, readOf}
-use Rattle.dates.specs.Readings as readings
+use Rattle.dates.specs.Readings.{readOf}
 use Rattle.scales.specs.declared.answer.Stepped.the-variants.{Reached}
 use Rattle.walk.specs.declared.kept.Kept.{Kept}
 use Rattle.walk.specs.declared.kept.Kept.the-variants as K
@@ -46,7 +43,6 @@ use Rattle.walk.proofs.Steps.{not-both, stepping}
 use Rattle.scales.specs.Scales.{highestCode, isCode, named}
 use Rattle.desk.specs.Conversion.{heldBy}
 use Rattle.promises.specs.Words.{tableIn}
-use Rattle.promises.proofs.Readings.{unread}
 
 -- an answer is no refusal
 pub apart : {A : Type 0} {refusal : Refusal} {epoch : Epoch} {steps : ℕ} → Refused refusal ≡ Converted epoch steps → A
@@ -148,31 +144,6 @@ walked from to reading bytes epoch steps e = by (course from to bytes)
     by (to-refused f t is) = apart (sym (is reading) ∙ e)
     by (table-refused o r j is) = apart (sym (is reading) ∙ e)
     by (walking is) = was-read (readOf reading) refl (sym (is reading) ∙ e)
-
-module _ (from to : ℕ) (bytes : List ℕ) (epoch : Epoch) (steps : ℕ) where
-  abbrev WalkFrom : ℤ → Type 0
-  WalkFrom tick = walkBetween (tableIn bytes) (coefficientsIn bytes) (named from) (named to) tick ≡ Converted epoch steps
-
-  -- from the tick that the reading is
-  pub reading-walk : (reading : Reading) (t : ℤ) → readOf reading ≡ R.Tick t
-      → convertOf from to reading bytes ≡ Converted epoch steps → WalkFrom t
-  reading-walk reading t r e =
-      let w = walked from to reading bytes epoch steps e in
-      let same : w .tick ≡ t = cc (w .read, r) in
-      subst WalkFrom same (w .walk)
-
-  -- a reading of ticks is the tick itself
-  pub tick-read : (t : ℤ) → convertOf from to (Ticks t) bytes ≡ Converted epoch steps → readOf (Ticks t) ≡ R.Tick t
-  unfolding readOf inRange
-  tick-read t e = let w = walked from to (Ticks t) bytes epoch steps e in within (w .tick) (isValid t) (w .read)
-    where
-      within : (u : ℤ) (valid : Bool) → readings.refusedIf (not valid) 4 0 (R.Tick t) ≡ R.Tick u
-          → readings.refusedIf (not valid) 4 0 (R.Tick t) ≡ R.Tick t
-      within u true r = refl
-      within u false r = unread r
-
-  pub tick-walk : (t : ℤ) → convertOf from to (Ticks t) bytes ≡ Converted epoch steps → WalkFrom t
-  tick-walk t e = reading-walk (Ticks t) t (tick-read t e) e
 
 -- ---- over accepted bytes every conversion between codes that name a scale is that walk
 pub between-named : (from to : ℕ) (reading : Reading) (bytes : List ℕ) (table : Table)
