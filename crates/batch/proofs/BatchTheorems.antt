@@ -25,10 +25,9 @@ use Rattle.entries.specs.declared.batched.Batched.the-variants.{Converted, Refu
 use Rattle.desk.specs.Order.{Check, passes, refuses, settled}
 use Rattle.opened.specs.Opened.{coefficientsIn}
 use Rattle.desk.specs.Conversion.{answering, heldBy, convertJudged, convertOf}
-use Rattle.entries.specs.Entries.{entryOf, earlier, triedOf}
-use Rattle.entries.proofs.TriedLists.{never-both, AllAccepted, FirstRefused, tried-accepted, tried-refused}
+use Rattle.entries.specs.Entries.{entryOf, triedOf}
+use Rattle.entries.proofs.TriedLists.{never-both, FirstRefused, tried-accepted, tried-refused}
 use Rattle.batch.specs.Batch.{batchSettled, batchOf, batchInto}
-use Rattle.walk.proofs.Steps.{not-both}
 use Rattle.desk.proofs.Asking.{settled-fits}
 use Rattle.desk.proofs.Steps.{conversion-steps}
 
@@ -46,11 +45,6 @@ check-accepted : (check : Check) (batched : Batched) {n : ℕ} → batchSettled 
     → (check ≡ passes) × (batched ≡ Converted n)
 check-accepted passes batched e = (refl, e)
 check-accepted (refuses refusal) batched e = never-both refl e
-
--- a conversion's answer as that of a batch
-abbrev pub alone : Answer → Batched
-alone (Answer.Converted epoch n) = Converted n
-alone (Answer.Refused refusal) = Refused refusal 0
 
 module _ (from to : ℕ) (bytes : List ℕ) where
   -- the conversion of one entry
@@ -89,7 +83,7 @@ module _ (from to : ℕ) (bytes : List ℕ) where
         check-accepted (settled P.Batch from to (eqb (length ticks) many) (judged bytes)) (triedOf entry many-steps 0 ticks) accepted
 
     -- 'into a second list of equal length'
-    pub accepted-long : length ticks ≡ many
+    accepted-long : length ticks ≡ many
     accepted-long = eqb-true _ _ (settled-fits P.Batch from to _ (judged bytes) (was-settled .0))
 
     -- 'An accepted batch answers the path's steps'
@@ -118,28 +112,3 @@ module _ (from to : ℕ) (bytes : List ℕ) where
       → batchInto from to ticks answers bytes ≡ answers
   unfolding batchInto
   refused-untouched ticks answers e = rw e
-
-  -- where every conversion is accepted, so is the batch
-  pub all-accepted : (ticks : List ℤ) (many : ℕ) → length ticks ≡ many → 0 < length ticks
-      → AllAccepted conversion ticks (length ticks)
-      → batchOf from to ticks many bytes ≡ Converted (steps (named from) (named to))
-  all-accepted ticks many long some all = go (batchOf from to ticks many bytes) refl
-    where
-      go : (answer : Batched) → batchOf from to ticks many bytes ≡ answer
-          → batchOf from to ticks many bytes ≡ Converted (steps (named from) (named to))
-      go (Converted n) e = e ∙ ap Converted (accepted-steps ticks many e)
-      go (Refused refusal index) e =
-          let first = batch-refused ticks many long some e in
-          not-both (first .refuses) (all index (first .inside) .2)
-
-  -- a batch of one is the conversion of that one
-  pub batch-of-one : (tick : ℤ) → batchOf from to (tick ∷ []) 1 bytes ≡ alone (conversion tick)
-  unfolding triedOf
-  batch-of-one tick =
-      batch-tried (tick ∷ []) 1 refl (omega arith)
-      ∙ one (conversion tick) (λ epoch n d. conversion-steps from to (Ticks tick) bytes d)
-    where
-      one : (answer : Answer) {many : ℕ} → ((epoch : Epoch) (n : ℕ) → answer ≡ Answer.Converted epoch n → n ≡ many)
-          → earlier answer 0 (Converted many) ≡ alone answer
-      one (Answer.Converted epoch n) h = ap Converted (sym (h epoch n refl))
-      one (Answer.Refused refusal) h = refl

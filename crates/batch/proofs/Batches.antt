@@ -82,7 +82,7 @@ module _ (from to : ℕ) (ticks : List ℤ) (table : Judged) (cs : List ℤ) whe
   by-between (A.Refused refusal) b = refl
 
 -- by what is asked
-pub batch-asked : (from to : ℕ) (ticks : List ℤ) (many : ℕ) (bytes : List ℕ) (asked : Asked)
+batch-asked : (from to : ℕ) (ticks : List ℤ) (many : ℕ) (bytes : List ℕ) (asked : Asked)
     → askedOf P.Batch from to (eqb (length ticks) many) ≡ asked
     → batchAsked asked ticks (judged bytes) (coefficientsIn bytes) ≡ batchOf from to ticks many bytes
 unfolding batchOf

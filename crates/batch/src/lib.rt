@@ -15,7 +15,6 @@ use walk::kept::Kept;
 ghost use mathlib.Core.Path.{_≡_};
 ghost use lib.ListN.{length};
 ghost use Rattle.batch.specs.Batch.{HasConverted};
-ghost use Rattle.filling.specs.Inner.{Ready, FilledOver};
 ghost use Rattle.batch.specs.Inner.{ReadyOver, FilledTaken};
 ghost use Rattle.batch.specs.Inner.{FilledCrossing};
 

@@ -60,7 +60,7 @@ module _ (b : List ℕ) (t : Table) where
             (stored-whole b (t .count) (t .degree)) (q .1);
       }
 
-  pub sound-passed : Sound b t → AllPass (tableTests b t)
+  sound-passed : Sound b t → AllPass (tableTests b t)
   sound-passed s =
       pass-join (blockTests b t) (granuleTests t (granuleStored b (t .degree))) (
         single-is 10 _ (s .whole),

@@ -117,15 +117,15 @@ module _ (t u : Table) (c : List ℤ) (many : ℕ) (e : writeJudged t c many ≡
   written = written-told t u c many e .accepted
 
   -- its bytes are accepted
-  pub written-accepted : judged (imageOf t c) ≡ Accepted t
-  written-accepted = sound-accepted (imageOf t c) t (table-same t c written) (image-sound t c written)
+  pub image-accepted : judged (imageOf t c) ≡ Accepted t
+  image-accepted = sound-accepted (imageOf t c) t (table-same t c written) (image-sound t c written)
 
   -- and reading gives the same numbers and the same coefficients, into any list of their number
-  pub written-read : (d : List ℤ) → length d ≡ length c
+  pub image-read : (d : List ℤ) → length d ≡ length c
       → (readJudged (imageOf t c) (length d) ≡ Accepted t) × (readInto (imageOf t c) d ≡ c)
   unfolding readInto
-  written-read d l =
-      let r = read-accepted (imageOf t c) d t written-accepted (l ∙ written .whole) in
+  image-read d l =
+      let r = read-accepted (imageOf t c) d t image-accepted (l ∙ written .whole) in
       (r, is-new _ t _ d r ∙ ap (storedFor (imageOf t c)) (table-same t c written) ∙ coefficients-same t c written)
 
 -- ---- an accepted image, written again, gives the same bytes
@@ -143,10 +143,10 @@ module _ (b : List ℕ) (t : Table) (small : (i : ℕ) → getD b i 0 < 256) (e 
         forms = λ k h. sound .forms k (subst (λ (l : ℕ). k < l) (sym (sound .blocks)) h);
       }
 
-  pub again-same : imageOf t (storedFor b t) ≡ b
+  again-same : imageOf t (storedFor b t) ≡ b
   again-same = same-image b t holds
 
-  pub again-accepted : writeJudged t (storedFor b t) (length b) ≡ Accepted t
+  again-accepted : writeJudged t (storedFor b t) (length b) ≡ Accepted t
   unfolding writeJudged
   again-accepted =
       let c = storedFor b t in
@@ -157,9 +157,9 @@ module _ (b : List ℕ) (t : Table) (small : (i : ℕ) → getD b i 0 < 256) (e 
       (accepted-passes t c (granuleIn c (t .degree)) (λ g h. refl) a))
 
   -- into any buffer of its size
-  pub again-written : (image : List ℕ) → length image ≡ length b
+  pub image-again : (image : List ℕ) → length image ≡ length b
       → (writeJudged t (storedFor b t) (length image) ≡ Accepted t) × (writeInto t (storedFor b t) image ≡ b)
   unfolding writeInto
-  again-written image l =
+  image-again image l =
       let a = ap (writeJudged t (storedFor b t)) l ∙ again-accepted in
       (a, is-new _ t _ image a ∙ again-same)

@@ -1,6 +1,6 @@
 -- The order of refusals in the code's steps: what is asked is what is settled before the table is
 -- looked at; a conversion by what is asked and what was read is the rule's. Assumes nothing.
-use mathlib.Core.Path.{_≡_, refl, sym, _∙_, ap, ap₂}
+use mathlib.Core.Path.{_≡_, refl, sym, _∙_, ap}
 use mathlib.Core.Bool.{Bool, true, false, cond}
 use mathlib.Core.List.{List, [], _∷_, _++_}
 use Prim.Native.Nat.{ℕ}
@@ -30,7 +30,7 @@ use Rattle.desk.specs.Order.{ifCrossed, settled}
 use Rattle.desk.specs.Conversion.{answering, started, betweenOf, heldBy}
 use Rattle.opened.specs.Opened.{coefficientsIn}
 use Rattle.desk.specs.Conversion.{convertJudged, convertOf}
-use Rattle.desk.specs.Inner.{askedBy, askedOf, crossedOf, convertAsked}
+use Rattle.desk.specs.Inner.{askedBy, askedOf, convertAsked}
 
 -- ---- a code and its scale
 module _ (purpose : Purpose) (code place : ℕ) where

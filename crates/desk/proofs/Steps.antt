@@ -26,7 +26,7 @@ use Rattle.opened.specs.Opened.{coefficientsIn}
 use Rattle.desk.specs.Conversion.{convertJudged, convertOf}
 
 -- what is accepted was settled
-pub accepted-settled : (check : Check) (answer : Answer) {epoch : Epoch} {n : ℕ}
+accepted-settled : (check : Check) (answer : Answer) {epoch : Epoch} {n : ℕ}
     → answering check answer ≡ Converted epoch n → (check ≡ passes) × (answer ≡ Converted epoch n)
 accepted-settled passes answer e = (refl, e)
 accepted-settled (refuses refusal) answer e = not-both refl e
@@ -36,7 +36,7 @@ started-steps : (walk : ℤ → Answer) (read : Read) {many : ℕ} {epoch : Epoc
 started-steps walk (R.Tick tick) h e = h tick e
 started-steps walk (R.Refused refusal) h e = not-both refl e
 
-pub between-steps : (from to : Scale) (read : Read) (kept : Kept) (coefficients : List ℤ) {epoch : Epoch} {n : ℕ}
+between-steps : (from to : Scale) (read : Read) (kept : Kept) (coefficients : List ℤ) {epoch : Epoch} {n : ℕ}
     → betweenOf from to read kept coefficients ≡ Converted epoch n → n ≡ steps from to
 unfolding betweenOf
 between-steps from to read kept coefficients e =

@@ -9,9 +9,7 @@ use Rattle.scales.specs.declared.answer.Answer.the-variants.{Refused}
 use Rattle.scales.specs.declared.scale.Purpose.{Purpose}
 use Rattle.scales.specs.declared.scale.Purpose.the-variants as P
 use Rattle.scales.specs.declared.scale.Scale.{Scale}
-use Rattle.scales.specs.Path.{path}
 use Rattle.scales.specs.Scales.{named}
-use Rattle.image.specs.Image.{tableOf, coefficientsStored}
 use Rattle.blocks.specs.declared.answer.Judged.{Judged}
 use Rattle.blocks.specs.declared.answer.Judged.the-variants as J
 use Rattle.blocks.specs.Judging.{judged}

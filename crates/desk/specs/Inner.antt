@@ -1,10 +1,8 @@
 -- What the inner functions ask of their callers, and what they give.
-use mathlib.Core.Path.{_≡_}
 use mathlib.Core.Bool.{Bool, cond}
 use mathlib.Core.List.{List, []}
-use Prim.Native.Nat.{ℕ, _+_, _*_, _≤_}
-use lib.IntN.{ℤ, pos}
-use lib.ListN.{length, take, drop, replicate}
+use Prim.Native.Nat.{ℕ}
+use lib.IntN.{ℤ}
 use Rattle.scales.specs.declared.answer.Answer.{Answer}
 use Rattle.scales.specs.declared.answer.Answer.the-variants.{Refused}
 use Rattle.scales.specs.declared.scale.Purpose.{Purpose}
@@ -12,11 +10,9 @@ use Rattle.scales.specs.declared.scale.Scale.{Scale}
 use Rattle.scales.specs.Path.{crosses}
 use Rattle.scales.specs.Scales.{named}
 use Rattle.image.specs.declared.table.Table.{Table}
-use Rattle.image.specs.Image.{howMany, coefficientsStored}
+use Rattle.image.specs.Image.{coefficientsStored}
 use Rattle.blocks.specs.declared.answer.Judged.{Judged}
-use Rattle.blocks.specs.declared.answer.Judged.the-variants as J
 use Rattle.blocks.specs.Judging.{judged}
-use Rattle.ephemeris.specs.Accepted.{Accepted}
 use Rattle.opened.specs.Opened.{coefficientsIn}
 use Rattle.dates.specs.declared.reading.Read.{Read}
 use Rattle.desk.specs.declared.asked.Asked.{Asked}

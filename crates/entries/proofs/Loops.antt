@@ -13,7 +13,6 @@ use Rattle.scales.specs.declared.answer.Epoch.{Epoch}
 use Rattle.scales.specs.declared.refusal.Refusal.{Refusal}
 use Rattle.scales.specs.declared.scale.Scale.{Scale}
 use Rattle.dates.specs.Readings.{inRange, readOf}
-use Rattle.entries.specs.declared.batched.Batched.{Batched}
 use Rattle.entries.specs.declared.batched.Batched.the-variants.{Converted, Refused}
 use Rattle.walk.specs.declared.kept.Kept.{Kept}
 use Rattle.desk.specs.Conversion.{betweenOf}

@@ -52,7 +52,7 @@ module _ (T : Table) (B : Bounded T) where
   last-is = ap (λ (z : ℤ). S T +ℤ pos (T .count) *ℤ z) (sym (natural T B))
 
   -- ---- the ticks
-  pub start-small : natAbs (S T) ≤ furthest
+  start-small : natAbs (S T) ≤ furthest
   start-small = valid-size (S T) (B .first)
 
   pub tick-small : (i : ℕ) → i ≤ lastPlace T → natAbs (S T +ℤ pos i) ≤ furthest

@@ -84,11 +84,11 @@ less zero = lit< tt
 less (suc zero) = lit< tt
 less (suc (suc k)) = lit< tt
 
-pub reach-first : reachAfter 0 ≡ 2 ^ 28
+reach-first : reachAfter 0 ≡ 2 ^ 28
 unfolding reachAfter
 reach-first = refl
 
-pub reach-last : reachAfter 2 ≡ 1
+reach-last : reachAfter 2 ≡ 1
 unfolding reachAfter
 reach-last = refl
 

@@ -58,7 +58,7 @@ module _ (T : Table) (cs : List ℤ) (A : Accepted T cs) (asked : ℤ) where
       (λ (l : asked <ℤ tdbAt T cs 0). let x = no-le (tdbAt T cs 0) asked l in rw x)
       (≤-total (tdbAt T cs 0) asked)
 
-  pub some-places : 0 < lastPlace T
+  some-places : 0 < lastPlace T
   unfolding lastPlace
   some-places = omega (arith, mul-le-mul (A .bounds .some) (long T (A .bounds)))
 

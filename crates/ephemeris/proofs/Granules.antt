@@ -29,7 +29,7 @@ module _ (T : Table) (B : Bounded T) where
 
 module _ (T : Table) (cs : List ℤ) (A : Accepted T cs) where
   -- ---- what the tests say of each granule
-  pub coefficients-length : (g : ℕ) → g < T .count → length (coefficientsOf T cs g) ≡ T .degree + 1
+  coefficients-length : (g : ℕ) → g < T .count → length (coefficientsOf T cs g) ≡ T .degree + 1
   unfolding granuleIn
   coefficients-length g h = simp (length-take, length-drop) (omega (arith, A .whole, mul-le-mul-right (T .degree + 1) h))
 

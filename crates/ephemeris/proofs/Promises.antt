@@ -1,5 +1,6 @@
--- What is promised of the step over a table, for every accepted table and every tick: how near to
--- the exact sum, in order, there and back, and when it is refused. Assumes nothing.
+-- What is promised of the step over a table, for every tick: which tick the earliest one is and
+-- when the step is refused, over any table; how near to the exact sum, in order, there and back,
+-- over an accepted one. Assumes nothing.
 use mathlib.Core.Path.{_≡_, _∙_, subst}
 use mathlib.Core.Logic.{_⊎_, inl, inr, ⊎-elim, _↔_}
 use mathlib.Core.Bool.{Bool, true, false, cond}
@@ -80,47 +81,16 @@ uncovered-number : (T : Table) (cs : List ℤ) (a : ℤ) → isCovered T cs a �
 unfolding ttStep steppedNumber
 uncovered-number T cs a h = rw h
 
-module _ (T : Table) (cs : List ℤ) (A : Accepted T cs) where
-  -- ---- 1. Each TT to TDB answer is within 33/64 tick of TT minus the exact sum, all times
-  -- 65536·H^n: 64·|u·TDB − (u·TT − H^n·sum)| ≤ 33·u
-  pub distance : (t : ℤ) → isInside T t ≡ true
-      → 64 * natAbs
-      (pos (unitsInTick * H T ^ T .degree) *ℤ tdbOf T cs t
-      -ℤ (pos (unitsInTick * H T ^ T .degree) *ℤ t -ℤ tableExact T cs (placeOf T t)))
-      ≤ 33 * (unitsInTick * H T ^ T .degree)
-  unfolding tdbOf
-  distance t h =
-      let u = pos (unitsInTick * H T ^ T .degree) in
-      let i = placeOf T t in
-      let d = tableDelay T cs i in
-      rw (turned u t d (tableExact T cs i), abs-neg (u *ℤ d -ℤ tableExact T cs i), ← factor (pos unitsInTick) d (pos (H T ^ T .degree)))
-      (omega (arith, delay-exact T cs A i (placed T t h)))
-
-  -- ---- 2. Of two TT ticks the earlier never has the later TDB, and of two TDB ticks the earlier
-  -- never goes back to a later TT
-  pub order : (s t : ℤ) → isInside T s ≡ true → isInside T t ≡ true → s ≤ℤ t → tdbOf T cs s ≤ℤ tdbOf T cs t
-  unfolding placeOf
-  order s t hs ht l =
-      let low = inside-both T s hs .0 in
-      rw (tdb-of T cs s low, tdb-of T cs t (inside-both T t ht .0))
-      (tdb-order T cs A (placeOf T s) (placeOf T t) (places-order (S T) s t low l) (placed T t ht))
-
-  pub order-back : (a b : ℤ) → a ≤ℤ b → ttOf T cs a ≤ℤ ttOf T cs b
-  unfolding ttOf tickAt
-  order-back a b l = ticks-order (S T) (earliestPlace T cs a) (earliestPlace T cs b) (⊎-elim
-      (λ (k : earliestPlace T cs a ≤ earliestPlace T cs b). k)
-      (λ (k : earliestPlace T cs b < earliestPlace T cs a). absurd (clash (tdbAt T cs (earliestPlace T cs b)) a (earliest-none T cs a (earliestPlace T cs b) k)
-      (≤-trans a b (tdbAt T cs (earliestPlace T cs b)) l (earliest-found T cs b (omega (arith, earliest-inside T cs a))))))
-      (le-or-lt (earliestPlace T cs a) (earliestPlace T cs b)))
-
-  -- ---- the asked TDB inside the ends, and its earliest tick
+-- ---- over any table and coefficients
+module _ (T : Table) (cs : List ℤ) where
+  -- the asked TDB inside the ends
   covered-both : (a : ℤ) → isCovered T cs a ≡ true → (tdbAt T cs 0 ≤ℤ a) × (a ≤ℤ tdbAt T cs (lastPlace T))
   unfolding isCovered
   covered-both a e =
       let b = both (leZ (tdbAt T cs 0) a) (leZ a (tdbAt T cs (lastPlace T))) e in
       (le-yes (tdbAt T cs 0) a (b .0), le-yes a (tdbAt T cs (lastPlace T)) (b .1))
 
-  -- there is always one, and TT from TDB is it
+  -- inside them there is an earliest tick, and TT from TDB is it
   pub earliest-of : (a : ℤ) → isCovered T cs a ≡ true → Earliest T cs a (ttOf T cs a)
   unfolding ttOf tdbAt
   earliest-of a e =
@@ -140,62 +110,16 @@ module _ (T : Table) (cs : List ℤ) (A : Accepted T cs) where
       (λ (k : t <ℤ s). absurd (clash (tdbOf T cs t) a (p .none t (q .inside) k) (q .reached)))
       (≤-total s t)
 
-  -- it is a valid epoch, so that no 4 can come of it
-  pub tt-valid : (a : ℤ) → isValid (ttOf T cs a) ≡ true
-  unfolding ttOf tickAt isValid
-  tt-valid a =
-      let t = S T +ℤ pos (earliestPlace T cs a) in
-      size-test furthest t
-      ∙ is-true (leb (natAbs t) furthest) (le→leb (natAbs t) furthest (tick-small T (A .bounds) (earliestPlace T cs a) (earliest-inside T cs a)))
-
-  -- ---- 3. TT to TDB to TT lands within one tick, and so does TDB to TT to TDB
-  back-place : (i : ℕ) → i ≤ lastPlace T → let j = earliestPlace T cs (tdbAt T cs i) in (j ≤ i) × (i ≤ j + 1)
-  back-place i h =
-      let a = tdbAt T cs i in
-      let j = earliestPlace T cs a in (
-        earliest-least T cs a i (≤ℤ-refl a),
-        ⊎-elim (λ (l : i ≤ j + 1). l)
-            (λ (l : j + 1 < i). absurd
-            (clash (tdbAt T cs j) a (tdb-rises T cs A j i (omega arith) h)
-            (earliest-reached T cs a (tdb-order T cs A i (lastPlace T) h (le-refl (lastPlace T))))))
-            (le-or-lt i (j + 1)),
-      )
-
-  pub there-and-back : (t : ℤ) → isInside T t ≡ true
-      → (ttOf T cs (tdbOf T cs t) ≤ℤ t) × (t ≤ℤ (ttOf T cs (tdbOf T cs t) +ℤ pos 1))
+  -- of two TDB ticks the earlier never goes back to a later TT
+  pub order-back : (a b : ℤ) → a ≤ℤ b → ttOf T cs a ≤ℤ ttOf T cs b
   unfolding ttOf tickAt
-  there-and-back t h =
-      let low = inside-both T t h .0 in
-      let i = placeOf T t in
-      let p = back-place i (placed T t h) in
-      let e = tdb-of T cs t low in
-      subst (λ (x : ℤ). (ttOf T cs (tdbOf T cs t) ≤ℤ x) × (x ≤ℤ (ttOf T cs (tdbOf T cs t) +ℤ pos 1))) (tick-of-place T t low)
-      (rw e (near-tick i (earliestPlace T cs (tdbAt T cs i)) p))
-    where
-      near-tick : (i j : ℕ) → (j ≤ i) × (i ≤ j + 1) → (tickAt T j ≤ℤ tickAt T i) × (tickAt T i ≤ℤ (tickAt T j +ℤ pos 1))
-      near-tick i j p = (ticks-order (S T) j i (p .0), next-tick (S T) i j (p .1))
+  order-back a b l = ticks-order (S T) (earliestPlace T cs a) (earliestPlace T cs b) (⊎-elim
+      (λ (k : earliestPlace T cs a ≤ earliestPlace T cs b). k)
+      (λ (k : earliestPlace T cs b < earliestPlace T cs a). absurd (clash (tdbAt T cs (earliestPlace T cs b)) a (earliest-none T cs a (earliestPlace T cs b) k)
+      (≤-trans a b (tdbAt T cs (earliestPlace T cs b)) l (earliest-found T cs b (omega (arith, earliest-inside T cs a))))))
+      (le-or-lt (earliestPlace T cs a) (earliestPlace T cs b)))
 
-  pub back-and-there : (a : ℤ) → isCovered T cs a ≡ true
-      → (a ≤ℤ tdbOf T cs (ttOf T cs a)) × (tdbOf T cs (ttOf T cs a) ≤ℤ (a +ℤ pos 1))
-  unfolding ttOf tdbAt
-  back-and-there a e = (
-    earliest-of a e .reached,
-    ⊎-elim
-        (λ (l : earliestPlace T cs a ≤ 0). let z : earliestPlace T cs a ≡ 0 = omega arith in rw z (weaken (tdbAt T cs 0) a (covered-both a e .0)))
-        (λ (l : 0 < earliestPlace T cs a). earliest-near T cs A a (earliestPlace T cs a - 1) (omega arith))
-        (le-or-lt (earliestPlace T cs a) 0),
-  )
-
-  -- the TDB of a tick inside is never refused on the way back
-  pub tdb-covered : (t : ℤ) → isInside T t ≡ true → isCovered T cs (tdbOf T cs t) ≡ true
-  unfolding isCovered
-  tdb-covered t h =
-      let i = placeOf T t in
-      let low = yes-le (tdbAt T cs 0) (tdbAt T cs i) (tdb-order T cs A 0 i zero-le (placed T t h)) in
-      let high = yes-le (tdbAt T cs i) (tdbAt T cs (lastPlace T)) (tdb-order T cs A i (lastPlace T) (placed T t h) (le-refl (lastPlace T))) in
-      rw (tdb-of T cs t (inside-both T t h .0), low, high)
-
-  -- ---- 4. Refusal 6 is given exactly to a TT outside the table, and to a TDB before that of the
+  -- refusal 6 is given exactly to a TT outside the table, and to a TDB before that of the
   -- first tick or after that of the last
   pub refused : (t : ℤ) → (steppedNumber (tdbStep T cs t) ≡ 6) ↔ ((t <ℤ S T) ⊎ (tickAt T (lastPlace T) <ℤ t))
   refused t = (to, λ o. outside-number T cs t (⊎-elim (before-no T t) (after-no T t) o))
@@ -227,3 +151,83 @@ module _ (T : Table) (cs : List ℤ) (A : Accepted T cs) where
 
       after : tdbAt T cs (lastPlace T) <ℤ a → isCovered T cs a ≡ false
       after l = and-right (leZ (tdbAt T cs 0) a) (no-le a (tdbAt T cs (lastPlace T)) l)
+
+-- ---- over an accepted one
+module _ (T : Table) (cs : List ℤ) (A : Accepted T cs) where
+  -- 1. Each TT to TDB answer is within 33/64 tick of TT minus the exact sum, all times
+  -- 65536·H^n: 64·|u·TDB − (u·TT − H^n·sum)| ≤ 33·u
+  pub table-distance : (t : ℤ) → isInside T t ≡ true
+      → 64 * natAbs
+      (pos (unitsInTick * H T ^ T .degree) *ℤ tdbOf T cs t
+      -ℤ (pos (unitsInTick * H T ^ T .degree) *ℤ t -ℤ tableExact T cs (placeOf T t)))
+      ≤ 33 * (unitsInTick * H T ^ T .degree)
+  unfolding tdbOf
+  table-distance t h =
+      let u = pos (unitsInTick * H T ^ T .degree) in
+      let i = placeOf T t in
+      let d = tableDelay T cs i in
+      rw (turned u t d (tableExact T cs i), abs-neg (u *ℤ d -ℤ tableExact T cs i), ← factor (pos unitsInTick) d (pos (H T ^ T .degree)))
+      (omega (arith, delay-exact T cs A i (placed T t h)))
+
+  -- 2. Of two TT ticks the earlier never has the later TDB
+  pub order : (s t : ℤ) → isInside T s ≡ true → isInside T t ≡ true → s ≤ℤ t → tdbOf T cs s ≤ℤ tdbOf T cs t
+  unfolding placeOf
+  order s t hs ht l =
+      let low = inside-both T s hs .0 in
+      rw (tdb-of T cs s low, tdb-of T cs t (inside-both T t ht .0))
+      (tdb-order T cs A (placeOf T s) (placeOf T t) (places-order (S T) s t low l) (placed T t ht))
+
+  -- TT from TDB is a valid epoch, so that no 4 can come of it
+  pub tt-valid : (a : ℤ) → isValid (ttOf T cs a) ≡ true
+  unfolding ttOf tickAt isValid
+  tt-valid a =
+      let t = S T +ℤ pos (earliestPlace T cs a) in
+      size-test furthest t
+      ∙ is-true (leb (natAbs t) furthest) (le→leb (natAbs t) furthest (tick-small T (A .bounds) (earliestPlace T cs a) (earliest-inside T cs a)))
+
+  -- 3. TT to TDB to TT lands within one tick, and so does TDB to TT to TDB
+  back-place : (i : ℕ) → i ≤ lastPlace T → let j = earliestPlace T cs (tdbAt T cs i) in (j ≤ i) × (i ≤ j + 1)
+  back-place i h =
+      let a = tdbAt T cs i in
+      let j = earliestPlace T cs a in (
+        earliest-least T cs a i (≤ℤ-refl a),
+        ⊎-elim (λ (l : i ≤ j + 1). l)
+            (λ (l : j + 1 < i). absurd
+            (clash (tdbAt T cs j) a (tdb-rises T cs A j i (omega arith) h)
+            (earliest-reached T cs a (tdb-order T cs A i (lastPlace T) h (le-refl (lastPlace T))))))
+            (le-or-lt i (j + 1)),
+      )
+
+  pub table-there-and-back : (t : ℤ) → isInside T t ≡ true
+      → (ttOf T cs (tdbOf T cs t) ≤ℤ t) × (t ≤ℤ (ttOf T cs (tdbOf T cs t) +ℤ pos 1))
+  unfolding ttOf tickAt
+  table-there-and-back t h =
+      let low = inside-both T t h .0 in
+      let i = placeOf T t in
+      let p = back-place i (placed T t h) in
+      let e = tdb-of T cs t low in
+      subst (λ (x : ℤ). (ttOf T cs (tdbOf T cs t) ≤ℤ x) × (x ≤ℤ (ttOf T cs (tdbOf T cs t) +ℤ pos 1))) (tick-of-place T t low)
+      (rw e (near-tick i (earliestPlace T cs (tdbAt T cs i)) p))
+    where
+      near-tick : (i j : ℕ) → (j ≤ i) × (i ≤ j + 1) → (tickAt T j ≤ℤ tickAt T i) × (tickAt T i ≤ℤ (tickAt T j +ℤ pos 1))
+      near-tick i j p = (ticks-order (S T) j i (p .0), next-tick (S T) i j (p .1))
+
+  pub back-and-there : (a : ℤ) → isCovered T cs a ≡ true
+      → (a ≤ℤ tdbOf T cs (ttOf T cs a)) × (tdbOf T cs (ttOf T cs a) ≤ℤ (a +ℤ pos 1))
+  unfolding ttOf tdbAt
+  back-and-there a e = (
+    earliest-of T cs a e .reached,
+    ⊎-elim
+        (λ (l : earliestPlace T cs a ≤ 0). let z : earliestPlace T cs a ≡ 0 = omega arith in rw z (weaken (tdbAt T cs 0) a (covered-both T cs a e .0)))
+        (λ (l : 0 < earliestPlace T cs a). earliest-near T cs A a (earliestPlace T cs a - 1) (omega arith))
+        (le-or-lt (earliestPlace T cs a) 0),
+  )
+
+  -- the TDB of a tick inside is never refused on the way back
+  pub tdb-covered : (t : ℤ) → isInside T t ≡ true → isCovered T cs (tdbOf T cs t) ≡ true
+  unfolding isCovered
+  tdb-covered t h =
+      let i = placeOf T t in
+      let low = yes-le (tdbAt T cs 0) (tdbAt T cs i) (tdb-order T cs A 0 i zero-le (placed T t h)) in
+      let high = yes-le (tdbAt T cs i) (tdbAt T cs (lastPlace T)) (tdb-order T cs A i (lastPlace T) (placed T t h) (le-refl (lastPlace T))) in
+      rw (tdb-of T cs t (inside-both T t h .0), low, high)

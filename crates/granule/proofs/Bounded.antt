@@ -14,7 +14,7 @@ use Rattle.numbers.specs.Rounding.{nearest}
 use Rattle.numbers.proofs.Order.{abs-neg, size-*, size-+}
 use Rattle.numbers.proofs.Rounding.{nearest-small}
 use Rattle.granule.specs.Bounds.{mostDegree}
-use Rattle.granule.specs.Rule.{unitsInTick, scale, pOf, uOf, bFrom, bAt, vOf, delayOf, valueAt, delayAt}
+use Rattle.granule.specs.Rule.{scale, pOf, uOf, bFrom, bAt}
 use Rattle.granule.specs.Tests.{largest, isSmall}
 use Rattle.granule.specs.Asked.{Terms, Evaluable}
 use Rattle.granule.proofs.Passing.{small-cons, small-drop, small-at}
@@ -55,7 +55,7 @@ last : top mostDegree .0 ≤ 2 ^ 60
 unfolding top
 last = lit≤ tt
 
-pub b-bounded : (u : ℤ) (cs : List ℤ) (k : ℕ) → natAbs u ≤ scale → isSmall cs ≡ true → length cs ≤ mostDegree + 1
+b-bounded : (u : ℤ) (cs : List ℤ) (k : ℕ) → natAbs u ≤ scale → isSmall cs ≡ true → length cs ≤ mostDegree + 1
     → 1 ≤ k → natAbs (bAt u cs k) ≤ 2 ^ 60
 unfolding bAt
 b-bounded u cs k hu e few h =

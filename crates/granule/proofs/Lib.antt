@@ -7,7 +7,8 @@
 -- granule; value-over, delay-over over a join).
 --
 -- `Passed` and `Meeting`, which these ask, from the tests: `Passing` (passed-of, meeting-of). What
--- test 14 says of a coefficient: small-at there.
+-- test 14 says of a coefficient: small-at there. That a zero behind the coefficients changes
+-- nothing for a test: `Zeros`.
 --
 -- The page's recurrence, b_k from b_(k+1) and b_(k+2): `Clauses` (b-top, b-turn). The other files
 -- serve these and the code.
@@ -18,6 +19,7 @@ pub mod Exact
 pub mod Distance
 pub mod Neighbours
 pub mod Passing
+pub mod Zeros
 pub mod Bounded
 pub mod Digits
 pub mod Product

@@ -69,7 +69,7 @@ delay-follows cs' cs H i j m l h = nearest-moves (valueAt cs' i H) (valueAt cs j
 
 -- ---- in a granule: two of its places, at most m ticks apart
 module _ (cs : List ℤ) (H : ℕ) (some : 1 ≤ length cs) (long : 0 < H) (slow : weightOf cs ≤ H) where
-  pub exact-moves : (i j m : ℕ) → i ≤ H → j ≤ H → i ≤ j + m → j ≤ i + m
+  exact-moves : (i j m : ℕ) → i ≤ H → j ≤ H → i ≤ j + m → j ≤ i + m
       → natAbs (exactAt cs i H -ℤ exactAt cs j H) ≤ 2 * m * H ^ (length cs - 1)
   unfolding exactAt
   exact-moves i j m hi hj a b =
@@ -88,7 +88,7 @@ module _ (cs : List ℤ) (H : ℕ) (passed : Passed cs H) where
   above : 0 < H
   above = let long = passed .long in omega arith
 
-  pub value-moves : (i j m : ℕ) → i ≤ H → j ≤ H → i ≤ j + m → j ≤ i + m
+  value-moves : (i j m : ℕ) → i ≤ H → j ≤ H → i ≤ j + m → j ≤ i + m
       → natAbs (valueAt cs i H -ℤ valueAt cs j H) ≤ 1039 + 2 * m
   value-moves i j m hi hj a b =
       apart (H ^ (length cs - 1)) (2 * m) (valueAt cs i H) (valueAt cs j H) (exactAt cs i H) (exactAt cs j H) (pow-above H (length cs - 1) above)
@@ -143,7 +143,7 @@ module _ (cs next : List ℤ) (H : ℕ) (passed : Passed cs H) (passed' : Passed
         mul-le-mul-right (H ^ n) d,
       ))
 
-  pub value-join : (j i m : ℕ) → j ≤ H → i ≤ H → (H - j) + i ≤ m
+  value-join : (j i m : ℕ) → j ≤ H → i ≤ H → (H - j) + i ≤ m
       → natAbs (valueAt next i H -ℤ valueAt cs j H) ≤ 1039 + (widest + 2 * m)
   value-join j i m hj hi d =
       apart (H ^ (length cs - 1)) (widest + 2 * m) (valueAt next i H) (valueAt cs j H) (exactAt next i H) (exactAt cs j H)

@@ -26,11 +26,11 @@ small-at [] k e = zero-le
 small-at (c ∷ cs) zero e = small-cons c cs e .0
 small-at (c ∷ cs) (suc k) e = small-at cs k (small-cons c cs e .1)
 
-pub light-both : (weight H : ℕ) → isLight weight H ≡ true → (weight ≤ heaviest) × (weight ≤ H)
+light-both : (weight H : ℕ) → isLight weight H ≡ true → (weight ≤ heaviest) × (weight ≤ H)
 unfolding isLight
 light-both weight H e = let b = both (leb weight heaviest) (leb weight H) e in (leb-true weight heaviest (b .0), leb-true weight H (b .1))
 
-pub joined-near : (plain alternating : ℤ) → isJoined plain alternating ≡ true → natAbs (plain -ℤ alternating) ≤ widest
+joined-near : (plain alternating : ℤ) → isJoined plain alternating ≡ true → natAbs (plain -ℤ alternating) ≤ widest
 unfolding isJoined
 joined-near plain alternating e = leb-true (natAbs (plain -ℤ alternating)) widest e
 

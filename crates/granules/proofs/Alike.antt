@@ -1,58 +1,49 @@
 -- Coefficients that the tests do not tell apart: zeros behind a granule's own change nothing.
 -- Assumes nothing.
-use mathlib.Core.Path.{_≡_, refl, ap}
-use mathlib.Core.Bool.{_&&_}
+use mathlib.Core.Path.{_≡_, refl, _∙_, ap}
 use mathlib.Core.List.{List, [], _∷_}
-use Prim.Native.Nat.{ℕ, zero, suc, _+_, _*_, _≤_, _<_, zero-le}
+use Prim.Native.Nat.{ℕ, zero, suc, _+_, _≤_, _<_, zero-le}
 use native.Mathlib.Nat.{not-suc-le-zero, le-of-suc-le-suc}
 use native.Mathlib.Omega.{arith}
-use lib.IntN.{ℤ, pos, natAbs, _+ℤ_, _-ℤ_}
-use Rattle.granule.specs.Tests.{isWithin, isSmall, weightFrom, weightOf, plainSum, alternatingSum}
+use lib.IntN.{ℤ, pos}
+use Rattle.numbers.specs.Lowest.{upTo}
+use Rattle.numbers.specs.Tests.{Rule, rank}
+use Rattle.granule.proofs.Zeros.{IgnoresZero, zeros}
 use Rattle.image.specs.Image.{coefficientAt, storedOf, granuleStored}
 use Rattle.image.specs.declared.table.Table.{Table}
-use Rattle.granules.specs.Pass.{Formed}
 use Rattle.image.proofs.Again.{stored-zero}
-use Rattle.numbers.specs.Lowest.{upTo}
+use Rattle.granules.specs.Pass.{Formed}
+use Rattle.granules.specs.Tests.{ownRules}
 
--- all that a test looks at is the same
-pub record Alike (c d : List ℤ) : Type 0 where
-  pub small : isSmall c ≡ isSmall d
-  pub heavy : (k : ℕ) → weightFrom k c ≡ weightFrom k d
-  pub plain : plainSum c ≡ plainSum d
-  pub alternating : alternatingSum c ≡ alternatingSum d
+-- ---- the rules of a granule by itself ignore a zero behind its coefficients, and so does its rank
+none-ignores : IgnoresZero (rank [])
+unfolding rank
+none-ignores c = refl
+
+rank-ignores : (x : Rule (List ℤ)) (xs : List (Rule (List ℤ))) → IgnoresZero (x .pass) → IgnoresZero (rank xs)
+    → IgnoresZero (rank (x ∷ xs))
+unfolding rank
+rank-ignores x xs one more c = rw (one c, more c)
+
+own-ignores : (H : ℕ) → IgnoresZero (rank (ownRules H))
+own-ignores H = search (rank-ignores, none-ignores, zeros) depth 9
+
+-- ---- coefficients that nothing tells apart which ignores a zero behind them
+pub record Alike (c d : List ℤ) : Type 1 where
+  pub same : {A : Type 0} (f : List ℤ → A) → IgnoresZero f → f c ≡ f d
 
 pub alike-same : {c d : List ℤ} → c ≡ d → Alike c d
-alike-same e =
-    record {
-      small = ap isSmall e;
-      heavy = λ k. ap (weightFrom k) e;
-      plain = ap plainSum e;
-      alternating = ap alternatingSum e;
-    }
+alike-same e = record { same = λ f _. ap f e }
 
-pub alike-weight : {c d : List ℤ} → Alike c d → weightOf c ≡ weightOf d
-unfolding weightOf
-alike-weight a = a .heavy 0
+-- so they have one rank
+pub own-same : (H : ℕ) {c d : List ℤ} → Alike c d → rank (ownRules H) c ≡ rank (ownRules H) d
+own-same H a = a .same (rank (ownRules H)) (own-ignores H)
 
 alike-more : (x : ℤ) {c d : List ℤ} → Alike c d → Alike (x ∷ c) (x ∷ d)
-unfolding isSmall weightFrom plainSum alternatingSum
-alike-more x a =
-    record {
-      small = ap (λ v. isWithin x && v) (a .small);
-      heavy = λ k. ap (λ (w : ℕ). k * k * natAbs x + w) (a .heavy (suc k));
-      plain = ap (λ (s : ℤ). x +ℤ s) (a .plain);
-      alternating = ap (λ (s : ℤ). x -ℤ s) (a .alternating);
-    }
+alike-more x a = record { same = λ f p. a .same (λ c. f (x ∷ c)) (λ c. p (x ∷ c)) }
 
 alike-zero : (x : ℤ) {c : List ℤ} → x ≡ pos 0 → Alike c [] → Alike (x ∷ c) []
-unfolding isSmall weightFrom plainSum alternatingSum
-alike-zero x e a =
-    record {
-      small = rw (e, a .small);
-      heavy = λ k. rw (e, a .heavy (suc k)) (omega arith);
-      plain = rw (e, a .plain);
-      alternating = rw (e, a .alternating);
-    }
+alike-zero x e a = record { same = λ f p. alike-more x a .same f p ∙ ap (λ (z : ℤ). f (z ∷ [])) e ∙ p [] }
 
 padded : (f : ℕ → ℤ) (n m : ℕ) → n ≤ m → ((i : ℕ) → n ≤ i → i < m → f i ≡ pos 0)
     → Alike (upTo f m) (upTo f n)

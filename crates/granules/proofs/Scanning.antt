@@ -11,6 +11,7 @@ use borrow.Author.Tests.{eq-eqb, ne-eqb, lt-ltb, le-ltb}
 use lib.Dec.{ltb, eqb}
 use lib.IntN.{ℤ, natAbs}
 use Rattle.granule.specs.Tests.{isSmall, plainSum, alternatingSum, isJoined}
+use Rattle.granule.proofs.Zeros.{plain-ignores, alternating-ignores}
 use Rattle.image.specs.declared.table.Table.{Table}
 use Rattle.numbers.specs.Tests.{over, rule, rank}
 use Rattle.numbers.proofs.Verdicts.{Best, best-none, best-lower, best-still, best-first, rank-later, rank-more, by-rank}
@@ -21,14 +22,9 @@ use Rattle.granules.specs.declared.Tested.the-variants.{Passed}
 use Rattle.granules.specs.Tests.{isJoin, ownRules, joinRank, noneRank, granuleRules, granuleTests}
 use Rattle.granules.specs.Answers.{testedRefused, testedBy}
 use Rattle.granules.specs.Pass.{joinedRank, scanAfter, scanNext, RankTold}
-use Rattle.granules.proofs.Alike.{Alike, alike-weight}
+use Rattle.granules.proofs.Alike.{Alike, own-same}
 
 -- ---- the rank of one granule
--- by itself: alike coefficients have one
-pub own-same : (H : ℕ) {c d : List ℤ} → Alike c d → rank (ownRules H) c ≡ rank (ownRules H) d
-unfolding rank
-own-same H a = rw (a .small, alike-weight a)
-
 pub own-small : (H : ℕ) (c : List ℤ) → (rank (ownRules H) c ≡ 0 → ⊥) → isSmall c ≡ true
 own-small H c n = rank-later _ _ c (above n) .0
   where
@@ -63,7 +59,7 @@ module _ (granule : ℕ → List ℤ) (H g : ℕ) (x : ℤ) (c : List ℤ) (here
   rank-is : joinedRank (rank (ownRules H) c) g x c ≡ rank (granuleRules H granule) g
   unfolding joinedRank
   rank-is =
-      ap (λ (z : ℤ). with-join (rank (ownRules H) c) (eqb g 0 || isJoined x z)) (here .alternating)
+      ap (λ (z : ℤ). with-join (rank (ownRules H) c) (eqb g 0 || isJoined x z)) (here .same alternatingSum alternating-ignores)
       ∙ ap (with-join (rank (ownRules H) c)) (join-is granule x g before)
       ∙ ap (λ (r : ℕ). with-join r (isJoin granule g)) (own-same H here)
       ∙ ap (cond (ltb (rank (ownRules H) (granule g)) joinRank) (rank (ownRules H) (granule g))) (join-rank granule g)
@@ -124,7 +120,7 @@ module _ (granule : ℕ → List ℤ) (H g : ℕ) (scan : Scan) (c : List ℤ) (
   ranked-is = rank-is granule H g (scan .plain .0) c here (sc .plain)
 
   kept : (k : ℕ) → g + 1 ≡ suc k → plainSum c ≡ plainSum (granule k)
-  kept k z = here .plain ∙ ap (λ (n : ℕ). plainSum (granule n)) (same z)
+  kept k z = here .same plainSum plain-ignores ∙ ap (λ (n : ℕ). plainSum (granule n)) (same z)
     where
       same : g + 1 ≡ suc k → g ≡ k
       same z = omega arith

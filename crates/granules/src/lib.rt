@@ -20,14 +20,6 @@ ghost use Rattle.granules.specs.Tests.{ownRules};
 ghost use Rattle.granules.specs.Answers.{testedStored, testedListed};
 ghost use Rattle.granules.specs.Pass.{joinedRank, scanNext, Short, Formed, RankTold};
 
-// The numbers of the tests, in the order of their ranks: those of a granule by itself, then 16.
-const NUMBERS: [u32; 3] = [14, 15, 16];
-
-// The ranks of a granule that fails none, and of 16.
-const NONE: usize = NUMBERS.len();
-
-const JOIN: usize = NONE - 1;
-
 // What the tests of the coefficients tell.
 pub enum Tested {
     Passed,
@@ -46,6 +38,14 @@ pub enum Next {
     Lowest,
     Onward(Scan),
 }
+
+// The numbers of the tests, in the order of their ranks: those of a granule by itself, then 16.
+const NUMBERS: [u32; 3] = [14, 15, 16];
+
+// The ranks of a granule that fails none, and of 16.
+const NONE: usize = NUMBERS.len();
+
+const JOIN: usize = NONE - 1;
 
 // The tests of a granule by itself: the rank of the first that fails, or how many there are.
 fn own_rank(coefficients: &[i64], length: u64) -> usize

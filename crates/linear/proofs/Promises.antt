@@ -54,7 +54,7 @@ proper-inverse s p =
 
 module _ (s : Linear) (p : Proper s) where
   -- within half a tick of the exact value: |2·(over·answer − exact)| ≤ over
-  pub nearest-half : (t : ℤ) → natAbs (pos 2 *ℤ (pos (s .over) *ℤ nearestTick s t -ℤ exact s t)) ≤ s .over
+  nearest-half : (t : ℤ) → natAbs (pos 2 *ℤ (pos (s .over) *ℤ nearestTick s t -ℤ exact s t)) ≤ s .over
   unfolding nearestTick
   nearest-half t = within-half (exact s t) (s .over) (p .overAbove)
 
@@ -112,14 +112,14 @@ module _ (row : LineRow) (t : ℤ) where
           record { from = v; to = k .0; is = k .1 }
       by false v there = out-of-range there
 
-  pub tick-took : (e : Epoch) → lineStep row t ≡ Reached e → nearestTick (row .by) t ≡ e .tick
+  tick-took : (e : Epoch) → lineStep row t ≡ Reached e → nearestTick (row .by) t ≡ e .tick
   tick-took e there = same-tick (took e there .is)
 
   -- from a valid tick, whose nearest is valid, it is taken
-  pub taken : isValid t ≡ true → isValid (nearestTick (row .by) t) ≡ true
+  pub line-taken : isValid t ≡ true → isValid (nearestTick (row .by) t) ≡ true
       → lineStep row t ≡ Reached (record { scale = row .to; tick = nearestTick (row .by) t })
   unfolding lineStep
-  taken from to = rw from (valid-kept (row .to) (nearestTick (row .by) t) to)
+  line-taken from to = rw from (valid-kept (row .to) (nearestTick (row .by) t) to)
 
 -- outside the table is no linear step
 pub never-table : {A : Type 0} (row : LineRow) (t : ℤ) → lineStep row t ≡ OutsideTable → A

@@ -46,7 +46,7 @@ module _ (table : Judged) (coefficients : List ℤ) where
   printed-one line more = refl
 
   -- whole lines, and then any text
-  output-whole : (line : ℕ) (text more : List ℕ)
+  pub output-whole : (line : ℕ) (text more : List ℕ)
       → output line (wholeLines text ++ more) ≡ output line (wholeLines text) ++ output (after line text) more
   unfolding outputFrom
   output-whole line text more =

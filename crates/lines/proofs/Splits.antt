@@ -61,18 +61,27 @@ plain-front zero text h = nothing-plain
 plain-front (suc size) [] h = nothing-plain
 plain-front (suc size) (byte ∷ more) h = plain-cons byte _ (plain-both byte more h .0) (plain-front size more (plain-both byte more h .1))
 
--- ---- a newline more: all lines are whole
-has-ended : (text : List ℕ) → hasNewline (text ++ (10 ∷ [])) ≡ true
+-- ---- a newline, and then any text: the lines up to it are whole
+has-ended : (text more : List ℕ) → hasNewline (text ++ (10 ∷ more)) ≡ true
 unfolding hasNewline
-has-ended [] = refl
-has-ended (byte ∷ more) = either (eqb byte 10)
+has-ended [] more = refl
+has-ended (byte ∷ text) more = either (eqb byte 10)
     (λ (e : eqb byte 10 ≡ true). rw e)
-    (λ (e : eqb byte 10 ≡ false). rw e (has-ended more))
+    (λ (e : eqb byte 10 ≡ false). rw e (has-ended text more))
+
+pub whole-after : (text more : List ℕ) → wholeLines (text ++ (10 ∷ more)) ≡ text ++ (10 ∷ wholeLines more)
+unfolding wholeLines
+whole-after [] more = rw (has-ended [] more)
+whole-after (byte ∷ text) more = rw (has-ended (byte ∷ text) more, whole-after text more)
+
+pub unfinished-after : (text more : List ℕ) → unfinished (text ++ (10 ∷ more)) ≡ unfinished more
+unfolding unfinished
+unfinished-after [] more = rw (has-ended [] more)
+unfinished-after (byte ∷ text) more = rw (has-ended (byte ∷ text) more, unfinished-after text more)
 
 pub whole-ended : (text : List ℕ) → wholeLines (text ++ (10 ∷ [])) ≡ text ++ (10 ∷ [])
 unfolding wholeLines
-whole-ended [] = rw (has-ended [])
-whole-ended (byte ∷ more) = rw (has-ended (byte ∷ more), whole-ended more)
+whole-ended text = whole-after text []
 
 -- ---- another byte more: as many lines are whole
 module _ (byte : ℕ) (plain : eqb byte 10 ≡ false) where

@@ -33,7 +33,8 @@
 --
 -- The lowest place at which a test fails, a test of every place, a list by its places: `Places`.
 -- Two tests in one: `Flags`. A list of tests, and the lowest rank among tests of the same places:
--- `Verdicts`.
+-- `Verdicts`. That code which asks one test after the other returns the rank of the first that
+-- fails: `Ranks`, by `search ranks`.
 --
 -- The Chebyshev polynomials of the granule rule: `Chebyshev` for their recurrence, size (E-bound),
 -- ends (E-start, E-end) and other denominators (E-scale), `Slope` for how far E_k moves when p
@@ -49,4 +50,5 @@ pub mod Slope
 pub mod Flags
 pub mod Places
 pub mod Verdicts
+pub mod Ranks
 pub mod Exactly

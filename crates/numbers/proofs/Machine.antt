@@ -92,7 +92,7 @@ fits-range (pos n) l g = record { sfits = ltb→lt n (2 ^ 63) (g .lt) }
 fits-range (negsuc n) l g = let h = leb→le n 9223372036854775807 (l .le) in record { sfits = omega arith }
 
 -- ---- two tests that hold together are one
-pub same-test : (a b : Bool) → (T a → T b) → (T b → T a) → a ≡ b
+same-test : (a b : Bool) → (T a → T b) → (T b → T a) → a ≡ b
 same-test true true f g = refl
 same-test true false f g = absurd (f tt)
 same-test false true f g = absurd (g tt)

@@ -113,7 +113,7 @@ module _ (p q : ℤ) (H : ℕ) (bp : natAbs p ≤ H) (bq : natAbs q ≤ H) where
   quot zero = quot₀
   quot (suc n) = quot-more n (quot n)
 
-  pub lipschitz : (n : ℕ)
+  lipschitz : (n : ℕ)
       → natAbs (E p (pos H) (suc n) -ℤ E q (pos H) (suc n)) ≤ suc n * suc n * H ^ n * natAbs (p -ℤ q)
   lipschitz n = let s = quot n in let z = p *ℤ s .Q +ℤ s .A in
       rw (s .next, cancel (E q (pos H) (suc n)) ((p -ℤ q) *ℤ z))

@@ -5,7 +5,7 @@ use mathlib.Core.Path.{_≡_, refl, sym, _∙_, ap, subst}
 use mathlib.Core.Bool.{Bool, true, false, cond}
 use mathlib.Core.List.{List, [], _∷_, _++_}
 use mathlib.Core.Logic.{⊎-elim}
-use Prim.Native.Nat.{ℕ, zero, suc, _+_, _≤_, _<_, zero-le}
+use Prim.Native.Nat.{ℕ, zero, suc, _+_, _-_, _≤_, _<_, zero-le}
 use native.Mathlib.Nat.{eq-or-lt-of-le, zero-add, le-of-eq, le-of-suc-le-suc, not-suc-le-zero}
 use native.Mathlib.Decide.{decLt}
 use native.Mathlib.Omega.{arith}
@@ -13,7 +13,7 @@ use borrow.Author.Tests.{lt-ltb, le-ltb, ltb-true, ltb-false}
 use lib.Dec.{ltb, eqb}
 use lib.ListN.{length, getD}
 use Rattle.numbers.specs.Lowest.{lowest}
-use Rattle.numbers.specs.Tests.{Test, test, single, failsAt, verdict, AllPass, FirstFailing, Rule, along, over, rank, told}
+use Rattle.numbers.specs.Tests.{Test, test, single, failsAt, verdict, numbersOf, AllPass, FirstFailing, Rule, along, over, rank, told}
 use Rattle.numbers.proofs.Places.{first-is, none-fails, all-pass}
 
 -- two lists, one behind the other
@@ -315,19 +315,15 @@ by-rank refused none (x ∷ xs) n (suc r) place b =
         }
 
 -- ---- what is told of a rank: a rule's number, by the list of their numbers
-abbrev pub numbersOf : {A : Type 0} → List (Rule A) → List ℕ
-numbersOf [] = []
-numbersOf (x ∷ xs) = x .number ∷ numbersOf xs
-
-module _ {A B : Type 0} (refused : ℕ → ℕ → A) (none : A) where
-  pub told-rule : (xs : List (Rule B)) (r place : ℕ) → r < length xs
-      → refused (getD (numbersOf xs) r 0) place ≡ told refused none xs r place
+module _ {A : Type 0} (refused : ℕ → ℕ → A) (none : A) where
+  pub told-rule : (xs : List (Rule ℕ)) (r place : ℕ) → r < length xs
+      → refused (getD (numbersOf (over 0 xs)) r 0) place ≡ told refused none xs r place
   unfolding told
   told-rule [] r place h = absurd (not-suc-le-zero h)
   told-rule (x ∷ xs) zero place h = refl
   told-rule (x ∷ xs) (suc r) place h = told-rule xs r place (le-of-suc-le-suc h)
 
-  pub told-none : (xs : List (Rule B)) (r place : ℕ) → length xs ≤ r → none ≡ told refused none xs r place
+  pub told-none : (xs : List (Rule ℕ)) (r place : ℕ) → length xs ≤ r → none ≡ told refused none xs r place
   unfolding told
   told-none [] r place h = refl
   told-none (x ∷ xs) zero place h = absurd (not-suc-le-zero h)

@@ -34,6 +34,11 @@ verdict refused none [] = none
 verdict refused none (x ∷ xs) =
     cond (ltb (failsAt x) (x .places)) (refused (x .number) (failsAt x)) (verdict refused none xs)
 
+-- the numbers of the tests of a list
+abbrev pub numbersOf : List Test → List ℕ
+numbersOf [] = []
+numbersOf (x ∷ xs) = x .number ∷ numbersOf xs
+
 -- the number and the place that a list tells, 0 and 0 where none fails
 abbrev pub toldBy : List Test → ℕ × ℕ
 toldBy xs = verdict (λ number place. (number, place)) (0, 0) xs

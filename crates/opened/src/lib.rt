@@ -6,14 +6,12 @@ use image::take::take_coefficients;
 ghost use mathlib.Core.Path.{_≡_};
 ghost use lib.IntN.{pos};
 ghost use lib.ListN.{replicate};
-ghost use Rattle.form.specs.Few.{Few};
 ghost use Rattle.image.specs.Bounds.{mostCoefficients};
 ghost use Rattle.image.specs.Image.{howMany};
 ghost use Rattle.opened.specs.Opened.{Opened, Taken};
 
 // How many coefficients a table has, G·(n+1).
 pub fn how_many(table: Table) -> usize
-    requires { ⌜ Few (table .count) (table .degree) ⌝ }
     ensures { λ r. ⌜ r ≡ howMany table ⌝ }
 {
     table.count as usize * (table.degree as usize + 1)

@@ -106,11 +106,11 @@ short to tick steps a b c =
 
 -- and a printed answer, without its newline, is a line of its three numbers. A count of steps is
 -- far below 2^63
-pub line-back : (to tick : ℤ) (steps line : ℕ) → fitsSigned to ≡ true → fitsSigned tick ≡ true
+pub line-reads-back : (to tick : ℤ) (steps line : ℕ) → fitsSigned to ≡ true → fitsSigned tick ≡ true
     → fitsSigned (pos steps) ≡ true
     → lineRead (answerText to tick steps) line ≡ Numbers to tick (pos steps)
 unfolding lineRead
-line-back to tick steps line a b c =
+line-reads-back to tick steps line a b c =
     rw (
       le-leb (length (answerText to tick steps)) 64 (short to tick steps a b c),
       answer-fields to tick steps,

@@ -66,9 +66,9 @@ module _ (from to : ℕ) (reading : Reading) (bytes : List ℕ)
       rw (w .read) (w .walk)
 
   -- the reading is accepted
-  pub read-accepted : readNumber (readOf reading) ≡ 0
+  pub reading-accepted : readNumber (readOf reading) ≡ 0
   unfolding readNumber
-  read-accepted =
+  reading-accepted =
       rw (walked from to reading bytes (epochOf answer) (answerSteps answer) (converted from to reading bytes accepted) .read)
 
   pub start-valid : isValid (readTick (readOf reading)) ≡ true

@@ -1,15 +1,19 @@
 -- What a batch answers, by its number, place, index and steps: the conversions of its entries, or
 -- the first of them that is refused; and that it looks at no table that its path does not cross.
 -- Assumes nothing.
-use mathlib.Core.Path.{_≡_, refl, ap}
+use mathlib.Core.Path.{_≡_, refl, sym, _∙_, ap}
+use mathlib.Core.Logic.{⊎-elim}
 use mathlib.Core.Bool.{false}
 use mathlib.Core.List.{List, [], _∷_, map}
-use Prim.Native.Nat.{ℕ, suc, _<_}
+use Prim.Native.Nat.{ℕ, suc, _≤_, _<_}
 use native.Mathlib.Omega.{arith}
 use lib.IntN.{ℤ, pos}
 use lib.ListN.{length, getD}
+use lib.Signed.{_≤ℤ_}
+use Rattle.numbers.proofs.Order.{le-or-lt}
 use Rattle.scales.specs.declared.answer.Answer.{Answer}
 use Rattle.scales.specs.declared.answer.Answer.the-variants as Answer
+use Rattle.scales.specs.declared.answer.Epoch.{Epoch}
 use Rattle.scales.specs.Answers.{answerNumber, answerPlace, answerTick, answerSteps}
 use Rattle.scales.specs.Path.{steps, crosses}
 use Rattle.scales.specs.Scales.{named}
@@ -24,9 +28,13 @@ use Rattle.opened.specs.Opened.{coefficientsIn}
 use Rattle.desk.specs.Order.{settled}
 use Rattle.desk.proofs.Asking.{between-unseen}
 use Rattle.dates.specs.Readings.{readOf}
-use Rattle.entries.specs.Entries.{triedOf}
+use Rattle.entries.specs.Entries.{earlier, triedOf}
+use Rattle.entries.proofs.Interval.{entry-within}
+use Rattle.desk.proofs.Steps.{conversion-steps}
+use Rattle.walk.proofs.Steps.{Answered}
 use Rattle.promises.specs.Words.{tableIn}
-use Rattle.promises.proofs.Exactly.{epochOf, converted, batch-converted}
+use Rattle.promises.proofs.Exactly.{converted, batch-converted}
+use Rattle.promises.proofs.Walks.{apart, Course, from-refused, to-refused, table-refused, walking, course, bytes-held}
 use Rattle.promises.proofs.Refusals.{table-unseen}
 
 -- what a number other than 0 means
@@ -58,29 +66,41 @@ module _ (from to : ℕ) (ticks answers : List ℤ) (bytes : List ℕ) where
       let e = batches.accepted-entries from to bytes ticks (length answers) accepted i h in
       (ap answerNumber (e .1), ap answerSteps (e .1), batches.accepted-ticks from to bytes ticks answers accepted i h)
 
-  -- ---- 'nothing is written'
+  -- ---- 'A refusal .. writes nothing'
   pub batch-untouched : 0 < batchedNumber batched → batchInto from to ticks answers bytes ≡ answers
   batch-untouched refused = batches.refused-untouched from to bytes ticks answers (refused-is batched refused)
 
+  -- 'and changes nothing kept': the next batch into that list answers and leaves what it would
+  -- have without the refused one
+  pub batch-after-refused : 0 < batchedNumber batched → (from' to' : ℕ) (ticks' : List ℤ) (bytes' : List ℕ)
+      → let left = batchInto from to ticks answers bytes in
+      (batchOf from' to' ticks' (length left) bytes' ≡ batchOf from' to' ticks' (length answers) bytes')
+      × (batchInto from' to' ticks' left bytes' ≡ batchInto from' to' ticks' answers bytes')
+  batch-after-refused refused from' to' ticks' bytes' = rw (batch-untouched refused) (refl, refl)
+
   -- ---- 'the earliest refusal is the batch's, with its index': it is that of the entry's
   -- conversion, and every conversion before it is accepted
-  pub first-refused : 0 < batchedNumber batched → length ticks ≡ length answers → 0 < length ticks
+  pub earliest-refused : 0 < batchedNumber batched → length ticks ≡ length answers → 0 < length ticks
       → let i = batchedIndex batched in
       (i < length ticks) × (answerNumber (conversion i) ≡ batchedNumber batched)
       × (answerPlace (conversion i) ≡ batchedPlace batched)
       × ((j : ℕ) → j < i → answerNumber (conversion j) ≡ 0)
   unfolding answerNumber answerPlace
-  first-refused refused long some-ticks =
+  earliest-refused refused long some-ticks =
       let f = batches.batch-refused from to bytes ticks (length answers) long some-ticks (refused-is batched refused) in
       (f .inside, ap answerNumber (f .refuses), ap answerPlace (f .refuses), λ j h. ap answerNumber (f .before j h .2))
 
   -- where every conversion is accepted, so is the batch
   pub all-accepted : length ticks ≡ length answers → 0 < length ticks
       → ((i : ℕ) → i < length ticks → answerNumber (conversion i) ≡ 0) → batchedNumber batched ≡ 0
-  unfolding batchedNumber
-  all-accepted long some-ticks each =
-      ap batchedNumber (batches.all-accepted from to bytes ticks (length answers) long some-ticks
-      (λ i h. (epochOf (conversion i), answerSteps (conversion i), converted from to (Ticks (getD ticks i (pos 0))) bytes (each i h))))
+  all-accepted long some-ticks each = ⊎-elim
+      (λ (h : batchedNumber batched ≤ 0). omega arith)
+      (λ (h : 0 < batchedNumber batched).
+      let f = earliest-refused h long some-ticks in
+      let zero = each (batchedIndex batched) (f .0) in
+      let no : ⊥ = omega (arith, f .1) in
+      absurd no)
+      (le-or-lt (batchedNumber batched) 0)
 
 -- a batch of one is the conversion of that one
 pub batch-of-one : (from to : ℕ) (tick : ℤ) (bytes : List ℕ)
@@ -88,14 +108,38 @@ pub batch-of-one : (from to : ℕ) (tick : ℤ) (bytes : List ℕ)
     let answer = convertOf from to (Ticks tick) bytes in
     (batchedNumber batched ≡ answerNumber answer) × (batchedPlace batched ≡ answerPlace answer)
     × (batchedIndex batched ≡ 0) × (batchedSteps batched ≡ answerSteps answer)
-unfolding batchedNumber batchedPlace batchedIndex batchedSteps answerNumber answerPlace answerSteps
-batch-of-one from to tick bytes = rw (batches.batch-of-one from to bytes tick) (by (convertOf from to (Ticks tick) bytes))
+unfolding batchedNumber batchedPlace batchedIndex batchedSteps answerNumber answerPlace answerSteps triedOf
+batch-of-one from to tick bytes =
+    rw (batches.batch-tried from to bytes (tick ∷ []) 1 refl (omega arith))
+    (by (convertOf from to (Ticks tick) bytes) (λ epoch n d. conversion-steps from to (Ticks tick) bytes d))
   where
-    by : (answer : Answer) → let b = batches.alone answer in
+    by : (answer : Answer) {many : ℕ} → ((epoch : Epoch) (n : ℕ) → answer ≡ Answer.Converted epoch n → n ≡ many)
+        → let b = earlier answer 0 (Converted many) in
         (batchedNumber b ≡ answerNumber answer) × (batchedPlace b ≡ answerPlace answer)
         × (batchedIndex b ≡ 0) × (batchedSteps b ≡ answerSteps answer)
-    by (Answer.Converted epoch many) = (refl, refl, refl, refl)
-    by (Answer.Refused refusal) = (refl, refl, refl, refl)
+    by (Answer.Converted epoch n) h = (refl, refl, refl, sym (h epoch n refl))
+    by (Answer.Refused refusal) h = (refl, refl, refl, refl)
+
+-- ---- between two ticks that a conversion accepts it accepts every tick
+pub accepted-between : (from to : ℕ) (bytes : List ℕ) (t u v : ℤ)
+    → answerNumber (convertOf from to (Ticks t) bytes) ≡ 0 → answerNumber (convertOf from to (Ticks v) bytes) ≡ 0
+    → t ≤ℤ u → u ≤ℤ v → answerNumber (convertOf from to (Ticks u) bytes) ≡ 0
+unfolding answerNumber
+accepted-between from to bytes t u v early late l m = by (course from to bytes)
+  where
+    walks : (tick : ℤ) → answerNumber (convertOf from to (Ticks tick) bytes) ≡ 0 → {other : Answer}
+        → convertOf from to (Ticks tick) bytes ≡ other → Answered other
+    walks tick zero is = (_, _, sym is ∙ converted from to (Ticks tick) bytes zero)
+
+    by : Course from to bytes (λ reading. convertOf from to reading bytes)
+        → answerNumber (convertOf from to (Ticks u) bytes) ≡ 0
+    by (from-refused f is) = apart (walks t early (is (Ticks t)) .2)
+    by (to-refused f g is) = apart (walks t early (is (Ticks t)) .2)
+    by (table-refused o r j is) = apart (walks t early (is (Ticks t)) .2)
+    by (walking is) =
+        let within = entry-within (tableIn bytes) (coefficientsIn bytes) (named from) (named to) (bytes-held bytes) t u v
+        (walks t early (is (Ticks t))) (walks v late (is (Ticks v))) l m in
+        ap answerNumber (is (Ticks u) ∙ within .2)
 
 -- ---- 'A path that doesn't cross never looks at the table'
 same-tried : {entry entry' : ℤ → Answer} → ((tick : ℤ) → entry tick ≡ entry' tick) → (many index : ℕ) (ticks : List ℤ)

@@ -15,7 +15,7 @@ use Rattle.blocks.specs.declared.answer.Judged.{Judged}
 use Rattle.blocks.specs.declared.answer.Judged.the-variants.{Accepted, Refused}
 use Rattle.blocks.specs.Judging.{judged}
 use Rattle.blocks.proofs.Accepting.{accepted-table}
-use Rattle.ephemeris.proofs.Promises as table
+use Rattle.ephemeris.proofs.Promises.{table-distance}
 use Rattle.dates.specs.declared.reading.Reading.{Reading}
 use Rattle.dates.specs.Answers.{readTick}
 use Rattle.dates.specs.Readings.{readOf}
@@ -45,7 +45,7 @@ module _ (bytes : List ℕ) (t : ℤ) (u : Epoch) where
       let cs = coefficientsIn bytes in
       let same = accepted-table bytes of j in
       let r = tdb-reached of cs t u e in
-      rw (same, ← same-tick (r .is)) (table.distance of cs (bytes-held bytes .accepted of (ap heldBy j)) t (r .inside))
+      rw (same, ← same-tick (r .is)) (table-distance of cs (bytes-held bytes .accepted of (ap heldBy j)) t (r .inside))
 
 -- ---- TT to TDB: between a code of TT (3, or 0) and the code of TDB (5), of any reading over any
 -- table bytes. With t the tick that was read and u = 65536·H^n the answer is within 33/64 tick of t

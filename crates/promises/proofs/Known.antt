@@ -23,7 +23,7 @@ use Rattle.image.specs.Image.{granuleIn}
 use Rattle.granules.specs.Tests.{isJoin}
 use Rattle.numbers.specs.Tests.{verdict}
 use Rattle.blocks.proofs.Taking.{is-new}
-use Rattle.blocks.proofs.RoundTrip.{written-accepted, written-read}
+use Rattle.blocks.proofs.RoundTrip.{image-accepted, image-read}
 use Rattle.ephemeris.specs.Accepted as table
 use Rattle.ephemeris.specs.Steps.{tdbStep, ttStep}
 use Rattle.ephemeris.specs.Table.{lastPlace, tickAt, isInside, placeOf, granuleOf, placeIn, tableDelay, tdbOf, tdbAt, earliestPlace, ttOf}
@@ -61,12 +61,12 @@ written = refl
 
 pub known-judged : judged knownBytes ≡ Accepted knownTable
 unfolding knownBytes
-known-judged = written-accepted knownTable knownTable knownCoefficients 1024 written
+known-judged = image-accepted knownTable knownTable knownCoefficients 1024 written
 
 pub known-held : coefficientsIn knownBytes ≡ knownCoefficients
 unfolding knownBytes coefficientsIn readInto
 known-held =
-    let r = written-read knownTable knownTable knownCoefficients 1024 written knownCoefficients refl in
+    let r = image-read knownTable knownTable knownCoefficients 1024 written knownCoefficients refl in
     sym (is-new _ knownTable _ _ (r .0)) ∙ r .1
 
 -- TDB at the first tick, at the last and at the one before it

@@ -4,18 +4,24 @@
 -- Demand 3, the three statements: `Distance` (distance), `Order` (in-order), `ThereAndBack`
 -- (there-and-back).
 --
--- Demand 2. The known values P1 to P13, one table and one statement: `Known` (known). What an
--- accepted answer carries: `Answers` (tick-valid, scale-told, steps-told). What a batch is, entry
--- by entry: `BatchTheorems` of `desk`. What is shut out: `Exclusions` (two-answers, batch-of-two).
+-- Demand 2. The known values P1 to P13, one table and one statement: `Known` (known). The page's
+-- example of lines: `Example` (page-answered). What an accepted answer carries: `Answers`
+-- (tick-valid, scale-told, steps-told). What a batch is, entry by entry: `Batches`. A table's bytes
+-- written and read back: `Tables`. What a line is answered with, and what is printed: `Lines`. What
+-- is shut out: `Exclusions` (two-answers, batch-of-two).
 --
 -- Demand 1. Each conversion is answered or refused, with which numbers and which places:
--- `Refusals`; why: `Reasons` (because).
+-- `Refusals`; exactly when: `Exactly`, and of its parts by themselves `Parts`; why: `Reasons`
+-- (because). A refusal writes nothing and changes nothing kept: `Batches` (batch-untouched,
+-- batch-after-refused), `Tables` (read-untouched, write-untouched, read-after-refused,
+-- write-after-refused).
 --
 -- What every contract says. Only one result and one last content of each lent buffer, of every
 -- public function: `Determined`.
 --
--- What they rest on: `Steps` has the law of each single step, `Walks` takes a conversion apart into
--- its walk, `Readings` says what a reading can be.
+-- What they rest on: `Steps` has the law of each single step, `Returning` that of its way back,
+-- `Walks` takes a conversion apart into its walk, `Readings` says what a reading can be, `Told`
+-- what an answer tells of the page's tests.
 pub mod Readings
 pub mod Steps
 pub mod Walks
@@ -33,5 +39,6 @@ pub mod Batches
 pub mod Tables
 pub mod Lines
 pub mod Known
+pub mod Example
 pub mod Exclusions
 pub mod Determined

@@ -27,7 +27,7 @@ use Rattle.promises.specs.Words.{tableIn}
 use Rattle.promises.specs.Words.{startOf}
 use Rattle.promises.proofs.Exactly.{epochOf}
 use Rattle.promises.proofs.Walks.{came-to, bytes-held}
-use Rattle.promises.proofs.Answers.{walked-from, read-accepted, ticks-read}
+use Rattle.promises.proofs.Answers.{walked-from, reading-accepted, ticks-read}
 
 -- ---- along a walk
 module _ (kept : Kept) (cs : List ℤ) (h : Held kept cs) (e f : Epoch) (m n : ℕ) where
@@ -59,6 +59,6 @@ pub in-order : (from to : ℕ) (bytes : List ℕ) (t u : ℤ) → answerNumber (
     → answerNumber (convertOf from to (Ticks u) bytes) ≡ 0 → t ≤ℤ u
     → answerTick (convertOf from to (Ticks t) bytes) ≤ℤ answerTick (convertOf from to (Ticks u) bytes)
 in-order from to bytes t u a b l =
-    let early = ticks-read t (read-accepted from to (Ticks t) bytes a) in
-    let late = ticks-read u (read-accepted from to (Ticks u) bytes b) in
+    let early = ticks-read t (reading-accepted from to (Ticks t) bytes a) in
+    let late = ticks-read u (reading-accepted from to (Ticks u) bytes b) in
     readings-in-order from to bytes (Ticks t) (Ticks u) a b (rw (early, late) l)

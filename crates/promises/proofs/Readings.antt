@@ -35,7 +35,7 @@ module _ (Q : Read → Type 0) where
         by true v = q tick v
         by false v = q4
 
-    pub reading-cases : Q (refusedWith 2 0) → Q (refusedWith 2 1) → Q (refusedWith 3 0) → Q (refusedWith 3 1)
+    reading-cases : Q (refusedWith 2 0) → Q (refusedWith 2 1) → Q (refusedWith 3 0) → Q (refusedWith 3 1)
         → (reading : Reading) → Q (readOf reading)
     unfolding readOf
     reading-cases q20 q21 q30 q31 (TwoPart first second) =
@@ -65,8 +65,8 @@ module _ (P : Refusal → Type 0) where
   told : (number place : ℕ) → Told number place → (r : Refusal) → refusedWith number place ≡ R.Refused r → P r
   told number place p r e = let same : record { number = number; place = place } ≡ r = cc in subst P same p
 
-  pub reading-told : (reading : Reading) → Told 2 0 → Told 2 1 → Told 3 0 → Told 3 1 → Told 4 0 → (r : Refusal)
+  pub reading-refusal : (reading : Reading) → Told 2 0 → Told 2 1 → Told 3 0 → Told 3 1 → Told 4 0 → (r : Refusal)
       → readOf reading ≡ R.Refused r → P r
-  reading-told reading p20 p21 p30 p31 p4 =
+  reading-refusal reading p20 p21 p30 p31 p4 =
       reading-cases (λ read. (r : Refusal) → read ≡ R.Refused r → P r) (told 4 0 p4) (λ tick v r e. unread (sym e)) (told 2 0 p20) (told 2 1 p21) (told 3 0 p30)
       (told 3 1 p31) reading

@@ -42,7 +42,7 @@ use Rattle.scales.specs.Scales.{named}
 use Rattle.promises.specs.Words.{tableIn}
 use Rattle.promises.specs.Words.{startOf}
 use Rattle.promises.specs.Reasons.{StoppedAfter, stepsToTable, overOnce, toldNumbers, isAmong}
-use Rattle.promises.proofs.Readings.{reading-told}
+use Rattle.promises.proofs.Readings.{reading-refusal}
 use Rattle.promises.proofs.Steps.{step-outside}
 use Rattle.promises.proofs.Reasons.{Stopped, EndedBetween, outside-table, outside-range, Because, by-from, by-to, by-table, by-reading, by-walk, because}
 
@@ -124,7 +124,7 @@ module _ (from to : ℕ) (reading : Reading) (bytes : List ℕ) (r : Refusal)
       by (by-from h n p) = of 1 refl n
       by (by-to h k n p) = of 1 refl n
       by (by-table o j) = table-number (isAmong toldNumbers) bytes r refl j
-      by (by-reading q) = reading-told (λ of. isAmong toldNumbers (of .number) ≡ true) reading refl refl refl refl refl r q
+      by (by-reading q) = reading-refusal (λ of. isAmong toldNumbers (of .number) ≡ true) reading refl refl refl refl refl r q
       by (by-walk tick q w) = ended tick w
 
   -- 6 comes of the walk alone, and so does 4 unless the start lies outside the range
@@ -136,7 +136,7 @@ module _ (from to : ℕ) (reading : Reading) (bytes : List ℕ) (r : Refusal)
       by (by-to h k n p) = let no : ⊥ = omega arith in absurd no
       by (by-table o j) = let no : ⊥ = omega (arith, table-above bytes r j) in absurd no
       by (by-reading q) =
-          let below = reading-told (λ of. of .number ≤ 4) reading (lit≤ tt) (lit≤ tt) (lit≤ tt) (lit≤ tt) (lit≤ tt) r q in
+          let below = reading-refusal (λ of. of .number ≤ 4) reading (lit≤ tt) (lit≤ tt) (lit≤ tt) (lit≤ tt) (lit≤ tt) r q in
           let no : ⊥ = omega arith in
           absurd no
       by (by-walk tick q w) = (tick, w)
@@ -180,7 +180,7 @@ module _ (from to : ℕ) (reading : Reading) (bytes : List ℕ) (r : Refusal)
       by (by-table o j) = let no : ⊥ = omega (arith, table-above bytes r j) in absurd no
       by (by-reading q) =
           let start =
-          reading-told (λ of. of .number ≡ 4 → of .place ≡ 0) reading (λ e. omega arith) (λ e. omega arith) (λ e. omega arith) (λ e. omega arith)
+          reading-refusal (λ of. of .number ≡ 4 → of .place ≡ 0) reading (λ e. omega arith) (λ e. omega arith) (λ e. omega arith) (λ e. omega arith)
           (λ e. refl) r q in
           inl (start four, rw q four)
       by (by-walk tick q w) = inr (ended tick q w)
@@ -205,7 +205,7 @@ module _ (from to : ℕ) (reading : Reading) (bytes : List ℕ)
   unfolding answerTick answerSteps
   carries-nothing = (ap answerTick is-refused, ap answerSteps is-refused)
 
-  -- the number is 1, 2, 3, 4, 6 or one of 10 to 16
+  -- the number is that of one of the tests of conversions
   pub told-number : isAmong toldNumbers (answerNumber answer) ≡ true
   told-number = number-told from to reading bytes _ is-refused
 

@@ -25,7 +25,7 @@ use Rattle.scales.specs.Tick.{furthest, isValid}
 use Rattle.scales.proofs.Every.{every-line, each-step}
 use Rattle.scales.proofs.Range.{valid-size}
 use Rattle.scales.proofs.Reached.{nowhere, same-tick}
-use Rattle.linear.proofs.Promises.{proper, proper-inverse, nearest-back, took, taken, turned-twice}
+use Rattle.linear.proofs.Promises.{proper, proper-inverse, nearest-back, took, line-taken, turned-twice}
 use Rattle.ephemeris.specs.Table.{tdbOf, ttOf}
 use Rattle.ephemeris.proofs.Promises.{earliest-of, back-and-there, tdb-covered}
 use Rattle.walk.specs.declared.kept.Kept.{Kept}
@@ -84,7 +84,7 @@ line-returns line t u e =
     let row = lineRow line in
     let a = took row t u e in
     let back = returns-by (row .by) t (nearest-back (row .by) (proper line) t) (a .from) (a .to) (λ end. ends-return t end line .0) in
-    rw (← same-tick (a .is)) (_, taken (turned row) (nearestTick (row .by) t) (a .to) back)
+    rw (← same-tick (a .is)) (_, line-taken (turned row) (nearestTick (row .by) t) (a .to) back)
 
 line-returns-back : (line : Line) (t : ℤ) (u : Epoch) → lineStep (turned (lineRow line)) t ≡ Reached u
     → Comes (lineStep (lineRow line) (u .tick))
@@ -93,7 +93,7 @@ line-returns-back line t u e =
     let a = took row t u e in
     let s = row .by in
     let back = returns-by s t (nearest-back s (proper-inverse (lineRow line .by) (proper line)) t) (a .from) (a .to) (λ end. ends-return t end line .1) in
-    rw (← turned-twice (lineRow line), ← same-tick (a .is)) (_, taken (turned row) (nearestTick s t) (a .to) back)
+    rw (← turned-twice (lineRow line), ← same-tick (a .is)) (_, line-taken (turned row) (nearestTick s t) (a .to) back)
 
 -- ---- over whatever is kept
 module _ (cs : List ℤ) where
@@ -117,7 +117,7 @@ module _ (cs : List ℤ) where
       let b = back-and-there T cs A t (a .covered) in
       let tdb = tdbOf T cs (ttOf T cs t) in
       let valid = size-valid tdb (after-asked tdb t (b .0) (b .1) (valid-size t v) (valid-size (t +ℤ pos 1) w)) in
-      rw (← same-tick (a .is)) (tdb-comes T cs (ttOf T cs t) (earliest-of T cs A t (a .covered) .inside) valid)
+      rw (← same-tick (a .is)) (tdb-comes T cs (ttOf T cs t) (earliest-of T cs t (a .covered) .inside) valid)
 
 -- ---- each step
 pub step-returns : (kept : Kept) (cs : List ℤ) → Held kept cs → (t : ℤ) (u : Epoch) → isValid t ≡ true → (step : Step)

@@ -18,7 +18,7 @@ use Rattle.scales.proofs.Every.{each-step}
 use Rattle.scales.proofs.Reached.{nowhere, same-tick}
 use Rattle.linear.proofs.Promises.{Proper, proper, proper-inverse, took, line-back, turned-twice, never-table}
 use Rattle.ephemeris.specs.Table.{tdbOf, ttOf}
-use Rattle.ephemeris.proofs.Promises.{there-and-back, back-and-there, tt-valid}
+use Rattle.ephemeris.proofs.Promises.{table-there-and-back, back-and-there, tt-valid}
 use Rattle.walk.specs.declared.kept.Kept.{Kept}
 use Rattle.walk.specs.declared.kept.Kept.the-variants as K
 use Rattle.walk.specs.Inner.{Held}
@@ -48,7 +48,7 @@ module _ (cs : List ℤ) where
   tdb-back K.Nothing h t u v e f = nowhere e
   tdb-back (K.Table table) h t u v e f =
       let a = tdb-reached table cs t u e in
-      let b = there-and-back table cs (h .accepted table refl) t (a .inside) in
+      let b = table-there-and-back table cs (h .accepted table refl) t (a .inside) in
       rw (← same-tick (tt-reached table cs (u .tick) v f .is), ← same-tick (a .is)) (near-before (ttOf table cs (tdbOf table cs t)) t (b .0) (b .1))
 
   tt-back : (kept : Kept) → Held kept cs → (t : ℤ) (u v : Epoch) → toTt kept cs t ≡ Reached u

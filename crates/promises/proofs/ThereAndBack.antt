@@ -52,7 +52,7 @@ use Rattle.promises.proofs.Told.{ofAnswer, conversion-told}
 use Rattle.promises.proofs.Parts.{tdb-number}
 use Rattle.promises.proofs.Exactly.{epochOf, conversion-exactly}
 use Rattle.promises.proofs.Walks.{one-step, bytes-held}
-use Rattle.promises.proofs.Answers.{walked-from, read-accepted, start-valid, tick-valid, ticks-read}
+use Rattle.promises.proofs.Answers.{walked-from, reading-accepted, start-valid, tick-valid, ticks-read}
 use Rattle.promises.proofs.Steps.{step-back}
 use Rattle.promises.proofs.Returning.{step-returns}
 
@@ -106,7 +106,7 @@ module _ (from to : ℕ) (reading : Reading) (bytes : List ℕ) (one : steps (na
   there-and-back again =
       let kept = tableIn bytes in
       let cs = coefficientsIn bytes in
-      let tick = ticks-read (answerTick there) (read-accepted to from (Ticks (answerTick there)) bytes again) in
+      let tick = ticks-read (answerTick there) (reading-accepted to from (Ticks (answerTick there)) bytes again) in
       step-back kept cs (bytes-held bytes) read (epochOf there) (between .step) (epochOf back) taken-there
       (one-step kept cs (opposite (between .step)) (path (named to) (named from)) (between .back) (startOf to (answerTick there)) (epochOf back)
       (answerSteps back) (rw tick at (walked-from to from (Ticks (answerTick there)) bytes again)))
@@ -206,7 +206,7 @@ module _ (from to : ℕ) (reading : Reading) (bytes : List ℕ) (starts : named 
       by (J.Refused refusal) j e = nowhere e
       by (J.Accepted of) j e =
           let a = tt-reached of cs (readTick (readOf reading)) _ e in
-          let inside = earliest-of of cs (bytes-held bytes .accepted of (ap heldBy j)) (readTick (readOf reading)) (a .covered) .inside in
+          let inside = earliest-of of cs (readTick (readOf reading)) (a .covered) .inside in
           let here = rw (same-tick (a .is)) at inside in
           rw (accepted-table bytes of j) (tdb-number of cs reached ∙ rw here)
 

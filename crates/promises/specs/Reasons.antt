@@ -4,7 +4,9 @@ use mathlib.Core.Bool.{Bool, true, false, cond, not, _||_}
 use mathlib.Core.List.{List, [], _∷_, _++_}
 use Prim.Native.Nat.{ℕ, suc}
 use lib.Dec.{eqb}
-use lib.IntN.{ℤ}
+use lib.Ieee.{fin}
+use lib.IntN.{ℤ, pos}
+use Rattle.numbers.specs.Tests.{numbersOf}
 use Rattle.scales.specs.declared.answer.Answer.{Answer}
 use Rattle.scales.specs.declared.path.Step.{Step}
 use Rattle.scales.specs.Answers.{answerNumber, answerTick, answerSteps, steppedNumber}
@@ -13,6 +15,8 @@ use Rattle.scales.specs.Rows.{overTable}
 use Rattle.opened.specs.Opened.{coefficientsIn}
 use Rattle.walk.specs.Walk.{stepOf, walkOf}
 use Rattle.scales.specs.Scales.{named}
+use Rattle.dates.specs.declared.reading.Reading.the-variants.{TwoPart}
+use Rattle.promises.specs.Tests.{conversionTests}
 use Rattle.promises.specs.Words.{startOf, tableIn}
 
 -- the walk from a tick of the first code's scale, over those steps
@@ -41,9 +45,12 @@ abbrev pub overOnce : List Step → Bool
 overOnce [] = true
 overOnce (step ∷ more) = cond (overTable step) (not (anyOverTable more)) (overOnce more)
 
--- the numbers with which a conversion can be refused
+-- the numbers with which a conversion can be refused: those of the tests of one from TT to TDB that
+-- is asked of a date, which has every kind of test
 abbrev pub toldNumbers : List ℕ
-toldNumbers = 1 ∷ 2 ∷ 3 ∷ 4 ∷ 6 ∷ 10 ∷ 11 ∷ 12 ∷ 13 ∷ 14 ∷ 15 ∷ 16 ∷ []
+toldNumbers =
+    let part = fin false 0 (pos 0) in
+    numbersOf (conversionTests 3 5 (TwoPart part part) [])
 
 abbrev pub isAmong : List ℕ → ℕ → Bool
 isAmong [] number = false

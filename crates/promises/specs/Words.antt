@@ -1,13 +1,16 @@
--- The words in which the promises speak of a conversion, beside those of `desk`.
+-- The words in which the promises speak of a conversion and of a line, beside those of `desk`.
 use mathlib.Core.Path.{_≡_}
+use mathlib.Core.Logic.{_⊎_}
 use mathlib.Core.List.{List}
 use Prim.Native.Nat.{ℕ, _*_, _^_}
-use lib.IntN.{ℤ}
+use lib.IntN.{ℤ, pos}
+use lib.Signed.{_<ℤ_}
 use Rattle.scales.specs.declared.answer.Answer.{Answer}
 use Rattle.scales.specs.declared.answer.Epoch.{Epoch}
+use Rattle.scales.specs.declared.scale.Purpose.the-variants as P
 use Rattle.scales.specs.declared.scale.Scale.{Scale}
 use Rattle.scales.specs.Answers.{answerNumber, answerScale, answerTick, answerSteps}
-use Rattle.scales.specs.Scales.{named}
+use Rattle.scales.specs.Scales.{highestCode, named}
 use Rattle.granule.specs.Rule.{unitsInTick}
 use Rattle.image.specs.declared.table.Table.{Table}
 use Rattle.image.specs.Image.{tableOf}
@@ -40,6 +43,10 @@ Tells judgement table =
 -- the table that bytes hold, where they are accepted
 abbrev pub tableIn : List ℕ → Kept
 tableIn bytes = heldBy (judged bytes)
+
+-- a line's number that is no code: 'A code outside 0..6'
+abbrev pub OutsideCodes : ℤ → Type 0
+OutsideCodes number = (number <ℤ pos 0) ⊎ (pos (highestCode P.Line) <ℤ number)
 
 -- ---- the exact sum, 'put with its denominators multiplied out'
 -- 65536·H^n, of the table that bytes hold: coefficients are 'in units of 1/65536 tick'

@@ -21,7 +21,7 @@ use Rattle.scales.specs.Linear.{nearestTick}
 use Rattle.scales.specs.Rows.{LineRow, lineRow, lineStep, StepRow, linear, table, tableBack, rowOf, end}
 use Rattle.scales.specs.Tick.{furthest, isValid}
 use Rattle.scales.proofs.Reached.{nowhere, same-tick, same-scale, kept-reached, valid-kept}
-use Rattle.linear.proofs.Promises.{Proper, proper, proper-inverse, nearest-in-order, took, taken, line-in-order}
+use Rattle.linear.proofs.Promises.{Proper, proper, proper-inverse, nearest-in-order, took, line-taken, line-in-order}
 use Rattle.image.specs.declared.table.Table.{Table}
 use Rattle.ephemeris.specs.Steps.{tdbStep, ttStep}
 use Rattle.ephemeris.specs.Table.{S, lastPlace, tickAt, tdbAt, isInside, isCovered, tdbOf, ttOf}
@@ -65,7 +65,7 @@ line-within row p t u v x w e f l m =
     let b = took row v w f in
     let near = nearestTick (row .by) in
     let to = valid-within (near t) (near u) (near v) (nearest-in-order (row .by) p t u l) (nearest-in-order (row .by) p u v m) (a .to) (b .to) in
-    (_, taken row u (valid-within t u v l m (a .from) (b .from)) to)
+    (_, line-taken row u (valid-within t u v l m (a .from) (b .from)) to)
 
 -- ---- a step over the table that reaches an epoch
 module _ (T : Table) (cs : List ℤ) (t : ℤ) where
@@ -134,11 +134,11 @@ module _ (cs : List ℤ) where
       let high = order T cs (h .accepted T refl) u v inside (b .inside) m in
       tdb-comes T cs u inside (valid-within (tdbOf T cs t) (tdbOf T cs u) (tdbOf T cs v) low high (a .valid) (b .valid))
 
-  tt-order : (kept : Kept) → Held kept cs → (t v : ℤ) (u w : Epoch) → toTt kept cs t ≡ Reached u
+  tt-order : (kept : Kept) (t v : ℤ) (u w : Epoch) → toTt kept cs t ≡ Reached u
       → toTt kept cs v ≡ Reached w → t ≤ℤ v → u .tick ≤ℤ w .tick
-  tt-order K.Nothing h t v u w e f l = nowhere e
-  tt-order (K.Table T) h t v u w e f l =
-      rw (← same-tick (tt-reached T cs t u e .is), ← same-tick (tt-reached T cs v w f .is)) (order-back T cs (h .accepted T refl) t v l)
+  tt-order K.Nothing t v u w e f l = nowhere e
+  tt-order (K.Table T) t v u w e f l =
+      rw (← same-tick (tt-reached T cs t u e .is), ← same-tick (tt-reached T cs v w f .is)) (order-back T cs t v l)
 
   tt-within : (kept : Kept) (t u v : ℤ) (x w : Epoch) → toTt kept cs t ≡ Reached x → toTt kept cs v ≡ Reached w → t ≤ℤ u
       → u ≤ℤ v → Comes (toTt kept cs u)
@@ -153,7 +153,7 @@ ProperRow (linear row) = Proper (row .by)
 ProperRow table = Unit {0}
 ProperRow tableBack = Unit {0}
 
-pub proper-row : (step : Step) → ProperRow (rowOf step)
+proper-row : (step : Step) → ProperRow (rowOf step)
 proper-row (Along (Edge.Linear line)) = proper line
 proper-row (Back (Edge.Linear line)) = proper-inverse (lineRow line .by) (proper line)
 proper-row (Along Edge.Table) = tt
@@ -172,7 +172,7 @@ module _ (kept : Kept) (cs : List ℤ) where
         → stepBy kept cs row v ≡ Reached w → t ≤ℤ v → u .tick ≤ℤ w .tick
     row-order (linear row) p t v u w e f l = line-in-order row p t u e v w f l
     row-order table p t v u w e f l = tdb-order cs kept h t v u w e f l
-    row-order tableBack p t v u w e f l = tt-order cs kept h t v u w e f l
+    row-order tableBack p t v u w e f l = tt-order cs kept t v u w e f l
 
     row-within : (row : StepRow) → ProperRow row → (t u v : ℤ) (x w : Epoch) → stepBy kept cs row t ≡ Reached x
         → stepBy kept cs row v ≡ Reached w → t ≤ℤ u → u ≤ℤ v → Comes (stepBy kept cs row u)

@@ -59,27 +59,14 @@ pub fn quad_at(bytes: &[u8], at: usize) -> u32
     (b0 + 256 * b1 + 65_536 * b2 + 16_777_216 * b3) as u32
 }
 
-// The number in eight bytes.
+// The number in eight bytes, four and four.
 pub fn word_at(bytes: &[u8], at: usize) -> u64
     requires { ⌜ at + 8 ≤ length (now bytes) ⌝ }
     ensures { λ r. ⌜ r ≡ wordAt (now (bytes .entry)) at ⌝ }
 {
-    let b0 = wide(bytes[at]);
-    let b1 = wide(bytes[at + 1]);
-    let b2 = wide(bytes[at + 2]);
-    let b3 = wide(bytes[at + 3]);
-    let b4 = wide(bytes[at + 4]);
-    let b5 = wide(bytes[at + 5]);
-    let b6 = wide(bytes[at + 6]);
-    let b7 = wide(bytes[at + 7]);
-    b0
-        + 256 * b1
-        + 65_536 * b2
-        + 16_777_216 * b3
-        + 4_294_967_296 * b4
-        + 1_099_511_627_776 * b5
-        + 281_474_976_710_656 * b6
-        + 72_057_594_037_927_936 * b7
+    let low = quad_at(bytes, at);
+    let high = quad_at(bytes, at + 4);
+    low as u64 + 4_294_967_296 * (high as u64)
 }
 
 // The signed number in eight bytes.

@@ -4,7 +4,8 @@ use Rattle.granules.specs.Answers.{testedRefused}
 use Rattle.granules.specs.Pass.{RankTold}
 use Rattle.granules.specs.Tests.{noneRank, granuleRules}
 use Rattle.granules.specs.declared.Tested.the-variants.{Passed}
-use Rattle.numbers.proofs.Verdicts.{numbersOf, told-rule, told-none}
+use Rattle.numbers.proofs.Verdicts.{told-rule, told-none}
+use Rattle.numbers.specs.Tests.{numbersOf, over}
 use borrow.Author.Needs.{needs}
 use lib.ListN.{getD}
 use mathlib.Core.List.{List, []}
@@ -13,7 +14,7 @@ use Rattle.granules.proofs.told.Tie as tie
 
 -- the same whatever the rules are over
 abbrev numbers : List ℕ
-numbers = numbersOf (granuleRules 0 (λ _. []))
+numbers = numbersOf (over 0 (granuleRules 0 (λ _. [])))
 
 is-passed : (r place : ℕ) → noneRank ≤ r → RankTold r place Passed
 is-passed r place h = record { is = λ H granule. told-none testedRefused Passed (granuleRules H granule) r place h }

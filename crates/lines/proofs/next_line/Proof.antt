@@ -1,7 +1,5 @@
 -- `lines::next_line` meets its contract. Assumes nothing.
 use borrow.Author.Needs.{needs}
-use mathlib.Core.Path.{_≡_, sym, _∙_}
-use native.Mathlib.Numerals.{add-one}
 use native.Mathlib.Omega.{arith}
 use Rattle.lines.proofs.Numbering.{next-is, next-stays}
 use Rattle.lines.proofs.next_line.Statement.{statement}

@@ -1,7 +1,6 @@
 -- `opened::how_many` meets its contract. Assumes nothing.
 use borrow.Author.Needs.{needs}
-use native.Mathlib.Omega.{arith}
-use Rattle.image.proofs.Slots.{room}
+use Rattle.blocks.proofs.Putting.{product}
 use Rattle.opened.proofs.how_many.Statement.{statement}
 use Rattle.opened.proofs.how_many.Tie as tie
 
@@ -15,7 +14,7 @@ add-result : tie.Need-add-result
 add-result c = search needs
 
 mul-result : tie.Need-mul-result
-mul-result c = record { fits = omega (arith, room _ _ (c .before .before .pre)) }
+mul-result c = record { fits = product _ _ (search needs) (search needs) }
 
 returns : tie.Need-returns
 returns c = search needs

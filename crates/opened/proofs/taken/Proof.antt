@@ -13,7 +13,7 @@ use Rattle.opened.proofs.taken.Statement.{statement}
 use Rattle.opened.proofs.taken.Tie as tie
 
 how-many-requires : tie.Need-how-many-requires
-how-many-requires c κs = few _ _ (c .before .pre .accepted)
+how-many-requires c κs = search needs
 
 room-requires : tie.Need-room-requires
 room-requires c κs = search needs

@@ -5,7 +5,7 @@ use mathlib.Core.Path.{_≡_, sym, _∙_}
 use lib.Seq.{length-take-le}
 use Rattle.blocks.specs.declared.answer.Judged.the-variants.{Accepted}
 use Rattle.blocks.specs.Judging.{judged}
-use Rattle.opened.proofs.Opening.{table-lent, lent-refused, few}
+use Rattle.opened.proofs.Opening.{table-lent, lent-refused}
 use Rattle.turns.proofs.run_over.Statement.{statement}
 use Rattle.turns.proofs.run_over.Tie as tie
 
@@ -24,7 +24,7 @@ taken-requires : tie.Need-taken-requires
 taken-requires c κs = record { accepted = opened c }
 
 how-many-requires : tie.Need-how-many-requires
-how-many-requires c κs = few _ _ (opened (c .before))
+how-many-requires c κs = search needs
 
 array-share-prefix-coefficients : tie.Need-array-share-prefix-coefficients
 array-share-prefix-coefficients c = search needs

@@ -1,6 +1,6 @@
 -- `words::bits_of` meets its contract. Below zero it is taken from −1 − number, which fits where
 -- −number does not. Assumes nothing.
-use Prim.Native.Nat.{ℕ, _-_, _≤_}
+use Prim.Native.Nat.{_-_, _≤_}
 use Rattle.numbers.proofs.Machine.{lt-yes, lt-no, flip}
 use lib.Dec.{T, ltb→lt}
 use lib.IntN.{ℤ, pos, negsuc, natAbs, _-ℤ_}

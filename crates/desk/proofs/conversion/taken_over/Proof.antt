@@ -4,7 +4,6 @@ use borrow.Author.Needs.{needs}
 use mathlib.Core.Path.{sym}
 use lib.Seq.{length-take-le}
 use Rattle.walk.proofs.Holding.{table-held}
-use Rattle.opened.proofs.Opening.{few}
 use Rattle.desk.proofs.conversion.taken_over.Statement.{statement}
 use Rattle.desk.proofs.conversion.taken_over.Tie as tie
 
@@ -12,7 +11,7 @@ taken-requires : tie.Need-taken-requires
 taken-requires c κs = search needs
 
 how-many-requires : tie.Need-how-many-requires
-how-many-requires c κs = few _ _ (c .before .before .pre .accepted)
+how-many-requires c κs = search needs
 
 array-share-prefix-coefficients : tie.Need-array-share-prefix-coefficients
 array-share-prefix-coefficients c = search needs
