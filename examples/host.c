@@ -1,15 +1,27 @@
-/* A host in C: it judges a table, converts, runs a batch and shows two refusals. The table's file
-   is its one argument. */
+/* A host in C: it judges a table, converts, runs a batch, reads and writes UTC and shows three
+   refusals. Its arguments are the table's file and that of the leap seconds. */
 #include "../include/colliedash.h"
 
 #include <inttypes.h>
 #include <stdio.h>
 
-enum { GPS = 1, TAI, TT, TCG, TDB, TCB };
+enum { GPS = 1, TAI, TT, TCG, TDB, TCB, UTC };
 
 /* The largest table has 121 blocks of 512 bytes. One byte more, so that a longer file is refused
    and not cut. */
 static uint8_t table[121 * 512 + 1];
+
+/* The longest list has 64 pairs. */
+static int64_t leaps[2 * 64 + 1];
+
+/* A comment's line, then a pair a line. */
+static size_t read_leaps(FILE *file) {
+    size_t count = 0;
+    fscanf(file, "%*[^\n]");
+    while (count < sizeof leaps / sizeof *leaps && fscanf(file, "%" SCNd64, &leaps[count]) == 1)
+        count++;
+    return count;
+}
 
 static void refused(const char *what, colliedash_answer answer) {
     printf("%s: refused %" PRIu32 ", place %" PRIu64 ", entry %" PRIu64 "\n", what, answer.number,
@@ -17,13 +29,16 @@ static void refused(const char *what, colliedash_answer answer) {
 }
 
 int main(int argc, char **argv) {
-    FILE *file = argc == 2 ? fopen(argv[1], "rb") : NULL;
-    if (!file) {
-        fprintf(stderr, "usage: host TABLE\n");
+    FILE *blocks = argc == 3 ? fopen(argv[1], "rb") : NULL;
+    FILE *pairs = argc == 3 ? fopen(argv[2], "r") : NULL;
+    if (!blocks || !pairs) {
+        fprintf(stderr, "usage: host TABLE LEAPS\n");
         return 2;
     }
-    size_t size = fread(table, 1, sizeof table, file);
-    fclose(file);
+    size_t size = fread(table, 1, sizeof table, blocks);
+    fclose(blocks);
+    size_t count = read_leaps(pairs);
+    fclose(pairs);
 
     colliedash_table judged = colliedash_judge(table, size);
     printf("table: number %" PRIu32 ", %" PRIu32 " granules of %" PRId64 " ticks, degree %" PRIu32
@@ -48,6 +63,20 @@ int main(int argc, char **argv) {
     answer = colliedash_batch(GPS, TCB, buzzes, 3, answers, 3, table, size);
     printf("batch of GPS to TCB, %" PRIu32 " steps: %" PRId64 " %" PRId64 " %" PRId64 "\n",
            answer.steps, answers[0], answers[1], answers[2]);
+
+    /* The leap second of 2016-12-31. No table is crossed on the way to TT. */
+    answer = colliedash_convert_utc(UTC, TT, 57753, 86400000000000, leaps, count, NULL, 0);
+    printf("UTC day 57753, ticks 86400000000000 is TT %" PRId64 ", %" PRIu32 " step\n", answer.tick,
+           answer.steps);
+
+    colliedash_utc utc =
+        colliedash_write_utc(TT, UTC, answer.tick + 1000000000, leaps, count, NULL, 0);
+    printf("a second later it is UTC day %" PRId64 ", ticks %" PRId64 ", %" PRIu32 " step\n",
+           utc.day, utc.ticks, utc.steps);
+
+    /* No other day near it has one. */
+    refused("UTC day 57754, ticks 86400000000000",
+            colliedash_convert_utc(UTC, TT, 57754, 86400000000000, leaps, count, NULL, 0));
 
     refused("TT 0 to TDB", colliedash_convert_ticks(TT, TDB, 0, table, size));
 

@@ -1,13 +1,14 @@
-"""A host in Python: it judges a table, converts, runs a batch and shows two refusals.
+"""A host in Python: it judges a table, converts, runs a batch, reads and writes UTC, and shows
+three refusals.
 
-Its arguments are the library as a shared object and the table's file.
+Its arguments are the library as a shared object, the table's file and that of the leap seconds.
 """
 
 import sys
 from ctypes import CDLL, POINTER, Structure
 from ctypes import c_char_p, c_double, c_int64, c_size_t, c_uint32, c_uint64
 
-GPS, TAI, TT, TCG, TDB, TCB = range(1, 7)
+GPS, TAI, TT, TCG, TDB, TCB, UTC = range(1, 8)
 
 
 class Answer(Structure):
@@ -26,6 +27,16 @@ class Date(Structure):
         ("place", c_uint64),
         ("first", c_double),
         ("second", c_double),
+    ]
+
+
+class Utc(Structure):
+    _fields_ = [
+        ("number", c_uint32),
+        ("steps", c_uint32),
+        ("place", c_uint64),
+        ("day", c_int64),
+        ("ticks", c_int64),
     ]
 
 
@@ -49,6 +60,8 @@ for name, answer, arguments in [
     ("write_date", Date, [c_int64]),
     ("convert_ticks", Answer, [c_uint32, c_uint32, c_int64] + BYTES),
     ("convert_date", Answer, [c_uint32, c_uint32, c_double, c_double] + BYTES),
+    ("convert_utc", Answer, [c_uint32, c_uint32, c_int64, c_int64] + TICKS + BYTES),
+    ("write_utc", Utc, [c_uint32, c_uint32, c_int64] + TICKS + BYTES),
     ("batch", Answer, [c_uint32, c_uint32] + TICKS + TICKS + BYTES),
 ]:
     function = getattr(desk, "colliedash_" + name)
@@ -62,6 +75,11 @@ def refused(what, answer):
 with open(sys.argv[2], "rb") as file:
     table = file.read()
 lent = (table, len(table))
+
+# A comment's line, then a pair a line.
+with open(sys.argv[3]) as file:
+    numbers = [int(number) for line in list(file)[1:] for number in line.split()]
+leaps = ((c_int64 * len(numbers))(*numbers), len(numbers))
 
 judged = desk.colliedash_judge(*lent)
 print(
@@ -84,6 +102,19 @@ buzzes = (c_int64 * 3)(1600000000000000007, 1600000000000000000, 160000000025000
 answers = (c_int64 * 3)(-1, -1, -1)
 answer = desk.colliedash_batch(GPS, TCB, buzzes, 3, answers, 3, *lent)
 print(f"batch of GPS to TCB, {answer.steps} steps:", *answers)
+
+# The leap second of 2016-12-31. No table is crossed on the way to TT.
+answer = desk.colliedash_convert_utc(UTC, TT, 57753, 86400000000000, *leaps, None, 0)
+print(f"UTC day 57753, ticks 86400000000000 is TT {answer.tick}, {answer.steps} step")
+
+utc = desk.colliedash_write_utc(TT, UTC, answer.tick + 1000000000, *leaps, None, 0)
+print(f"a second later it is UTC day {utc.day}, ticks {utc.ticks}, {utc.steps} step")
+
+# No other day near it has one.
+refused(
+    "UTC day 57754, ticks 86400000000000",
+    desk.colliedash_convert_utc(UTC, TT, 57754, 86400000000000, *leaps, None, 0),
+)
 
 refused("TT 0 to TDB", desk.colliedash_convert_ticks(TT, TDB, 0, *lent))
 

@@ -1,5 +1,5 @@
-//! A host in Rust: it judges a table, converts, runs a batch and shows two refusals. The table's
-//! file is its one argument.
+//! A host in Rust: it judges a table, converts, runs a batch, reads and writes UTC and shows three
+//! refusals. Its arguments are the table's file and that of the leap seconds.
 
 use std::ptr::null;
 
@@ -7,6 +7,7 @@ const GPS: u32 = 1;
 const TT: u32 = 3;
 const TDB: u32 = 5;
 const TCB: u32 = 6;
+const UTC: u32 = 7;
 
 #[repr(C)]
 struct Answer {
@@ -23,6 +24,15 @@ struct Date {
     place: u64,
     first: f64,
     second: f64,
+}
+
+#[repr(C)]
+struct Utc {
+    number: u32,
+    steps: u32,
+    place: u64,
+    day: i64,
+    ticks: i64,
 }
 
 #[repr(C)]
@@ -56,6 +66,25 @@ unsafe extern "C" {
         table: *const u8,
         table_len: usize,
     ) -> Answer;
+    fn colliedash_convert_utc(
+        from: u32,
+        to: u32,
+        day: i64,
+        ticks: i64,
+        leaps: *const i64,
+        leaps_len: usize,
+        table: *const u8,
+        table_len: usize,
+    ) -> Answer;
+    fn colliedash_write_utc(
+        from: u32,
+        to: u32,
+        tick: i64,
+        leaps: *const i64,
+        leaps_len: usize,
+        table: *const u8,
+        table_len: usize,
+    ) -> Utc;
     fn colliedash_batch(
         from: u32,
         to: u32,
@@ -95,6 +124,24 @@ fn batch(
     }
 }
 
+/// A UTC reading in TT, on the way to which no table is crossed.
+fn tt_of(day: i64, ticks: i64, leaps: &[i64]) -> Answer {
+    unsafe { colliedash_convert_utc(UTC, TT, day, ticks, leaps.as_ptr(), leaps.len(), null(), 0) }
+}
+
+/// And back.
+fn utc_of(tick: i64, leaps: &[i64]) -> Utc {
+    unsafe { colliedash_write_utc(TT, UTC, tick, leaps.as_ptr(), leaps.len(), null(), 0) }
+}
+
+/// A comment's line, then a pair a line.
+fn pairs(text: &str) -> Vec<i64> {
+    let numbers = text.lines().skip(1).flat_map(str::split_whitespace);
+    numbers
+        .map(|number| number.parse().expect("a number"))
+        .collect()
+}
+
 fn refused(what: &str, answer: Answer) {
     let Answer {
         number,
@@ -106,8 +153,10 @@ fn refused(what: &str, answer: Answer) {
 }
 
 fn main() {
-    let path = std::env::args().nth(1).expect("usage: host TABLE");
-    let table = std::fs::read(path).expect("a table's file");
+    let mut paths = std::env::args().skip(1);
+    let mut path = || paths.next().expect("usage: host TABLE LEAPS");
+    let table = std::fs::read(path()).expect("a table's file");
+    let leaps = pairs(&std::fs::read_to_string(path()).expect("a file of leap seconds"));
 
     let judged = unsafe { colliedash_judge(table.as_ptr(), table.len()) };
     println!(
@@ -143,6 +192,25 @@ fn main() {
         let [a, b, c] = answers;
         println!("batch of GPS to TCB, {steps} steps: {a} {b} {c}");
     }
+
+    // The leap second of 2016-12-31.
+    let answer = tt_of(57753, 86_400_000_000_000, &leaps);
+    println!(
+        "UTC day 57753, ticks 86400000000000 is TT {}, {} step",
+        answer.tick, answer.steps
+    );
+
+    let utc = utc_of(answer.tick + 1_000_000_000, &leaps);
+    println!(
+        "a second later it is UTC day {}, ticks {}, {} step",
+        utc.day, utc.ticks, utc.steps
+    );
+
+    // No other day near it has one.
+    refused(
+        "UTC day 57754, ticks 86400000000000",
+        tt_of(57754, 86_400_000_000_000, &leaps),
+    );
 
     let outside = unsafe { colliedash_convert_ticks(TT, TDB, 0, table.as_ptr(), table.len()) };
     refused("TT 0 to TDB", outside);

@@ -8,17 +8,23 @@
    other field is 0, and nothing that was lent has been written. A null pointer is allowed where its
    length is 0. Two lists that are lent at once share no memory.
 
-   Scale codes: 1 GPS, 2 TAI, 3 TT, 4 TCG, 5 TDB, 6 TCB; 0 is read as TT.
+   Scale codes: 1 GPS, 2 TAI, 3 TT, 4 TCG, 5 TDB, 6 TCB; 0 is read as TT. Code 7 is UTC, where a
+   UTC reading is read or written and nowhere else; there no other code will do.
 
    number  when                                                            place
-   1       a scale code is above 6                                         0 from, 1 to
+   1       a scale code is above 6, or is 7 for UTC where it may not be,   0 from, 1 to
+           or is another where it must be 7
    2       a double is NaN or infinite                                     part, 0 or 1
    3       a date part lies beyond 5,000,000 days either way,              part, 0 or 1
            seconds beyond 10^10
    4       an epoch lies outside -6*10^18 .. 6*10^18                       steps done, the one that
                                                                            led outside counted
+   5       a UTC day, or a tick to be written as UTC, lies before the      0
+           first day of the list of leap seconds, or ticks are negative
+           or at or past the day's end
    6       an epoch lies outside the table                                 steps done
-   8       the lent lengths don't fit                                      0
+   7       the list of leap seconds breaks a rule                          0
+   8       the lent lengths don't fit, or that list's is odd               0
    10      the bytes are not 2 to 121 whole blocks                         0
    11      a check is wrong                                                lowest block
    12      a kind, edition, number, count or zero byte is wrong            lowest block
@@ -27,9 +33,15 @@
    15      a weight lies above 2^40 or above H                             lowest granule
    16      two granules meet with more than 1024 units between them        the later granule
 
-   They are told in the order 1 (from, then to), 8, 10 to 16, 2, 3, 4 at the start, then step by
-   step, 6 before 4. A conversion that does not cross between TT and TDB never looks at the
-   table. */
+   They are told in the order 1 (from, then to), 8, 7, 10 to 16, 2, 3, 5 of a reading, 4 at the
+   start, then step by step, 6 before 4, and last 5 of a tick to be written. A conversion that does
+   not cross between TT and TDB never looks at the table.
+
+   A list of leap seconds is lent flat: first day (Modified Julian Day), TAI-UTC in seconds from
+   that day on, first day, seconds, and so on. It has 1 to 64 such pairs and starts with 41317 and
+   10; days rise strictly, and seconds change by exactly one. The day before a rise has 86,401 s,
+   whose leap second is the ticks from 86,400*10^9 on; the day before a fall has 86,399. After the
+   last pair its seconds hold for ever. */
 #ifndef COLLIEDASH_H
 #define COLLIEDASH_H
 
@@ -67,6 +79,15 @@ typedef struct {
     double second;
 } colliedash_date;
 
+/* A UTC reading: a Modified Julian Day and ticks within the day. */
+typedef struct {
+    uint32_t number;
+    uint32_t steps;
+    uint64_t place;
+    int64_t day;
+    int64_t ticks;
+} colliedash_utc;
+
 /* The numbers of the table that the bytes hold, or the refusal of 10 to 16 that they get. */
 colliedash_table colliedash_judge(const uint8_t *table, size_t table_len);
 
@@ -99,6 +120,17 @@ colliedash_answer colliedash_convert_date(uint32_t from, uint32_t to, double fir
 /* The same of seconds past J2000, which is Julian date 2451545.0 in the scale `from`. */
 colliedash_answer colliedash_convert_j2000(uint32_t from, uint32_t to, double seconds,
                                            const uint8_t *table, size_t table_len);
+
+/* The same of a UTC reading, over a list of leap seconds; `from` is 7. It is read as a TAI tick,
+   which counts no step: into TAI there are 0. */
+colliedash_answer colliedash_convert_utc(uint32_t from, uint32_t to, int64_t day, int64_t ticks,
+                                         const int64_t *leaps, size_t leaps_len,
+                                         const uint8_t *table, size_t table_len);
+
+/* Converts a tick of the scale `from` into TAI and writes that as UTC, over a list of leap seconds;
+   `to` is 7. Writing counts no step. */
+colliedash_utc colliedash_write_utc(uint32_t from, uint32_t to, int64_t tick, const int64_t *leaps,
+                                    size_t leaps_len, const uint8_t *table, size_t table_len);
 
 /* Converts a list of ticks into a second list of equal length: all of them, with the path's steps;
    or the earliest refusal, its index, and nothing is written. The table is judged once. */

@@ -8,7 +8,7 @@ bytes, little-endian: a narrower one is widened with zeros, a signed one is its
 two's complement, a double is its bits.
 
 A request:
-    function            0: none, the bridge alone answers; 1 to 8: as listed below
+    function            0: none, the bridge alone answers; 1 to 10: as listed below
     numbers[4]          the call's plain arguments, in their order; then zeros
     table kind, length  the table; a length counts bytes
     list kind, length   the list lent to read
@@ -44,6 +44,7 @@ extern _Noreturn void _exit(int);
 typedef struct { u32 number; u32 steps; u64 place; u64 index; i64 tick; } answer;
 typedef struct { u32 number; u64 place; double first; double second; } date;
 typedef struct { u32 number; u32 count; u32 degree; u64 place; i64 start; i64 length; } table;
+typedef struct { u32 number; u32 steps; u64 place; i64 day; i64 ticks; } utc;
 
 /* All of them: an archive that lacks one makes no bridge. */
 table colliedash_judge(const u8 *, u64);
@@ -54,8 +55,11 @@ answer colliedash_convert_ticks(u32, u32, i64, const u8 *, u64);
 answer colliedash_convert_date(u32, u32, double, double, const u8 *, u64);
 answer colliedash_convert_j2000(u32, u32, double, const u8 *, u64);
 answer colliedash_batch(u32, u32, const i64 *, u64, i64 *, u64, const u8 *, u64);
+answer colliedash_convert_utc(u32, u32, i64, i64, const i64 *, u64, const u8 *, u64);
+utc colliedash_write_utc(u32, u32, i64, const i64 *, u64, const u8 *, u64);
 
-enum { NONE, JUDGE, READ_TABLE, WRITE_TABLE, WRITE_DATE, TICKS, DATE, J2000, BATCH, FUNCTIONS };
+enum { NONE, JUDGE, READ_TABLE, WRITE_TABLE, WRITE_DATE, TICKS, DATE, J2000, BATCH, CONVERT_UTC,
+       WRITE_UTC, FUNCTIONS };
 enum { NOTHING, GIVEN, SAME };
 enum { TABLE, LIST, WRITTEN, PLACES };
 /* As long as a block of a table: who writes one block too many is seen. */
@@ -209,6 +213,15 @@ static void note_table(u64 *to, table got)
     to[5] = (u64)got.length;
 }
 
+static void note_utc(u64 *to, utc got)
+{
+    to[0] = got.number;
+    to[1] = got.steps;
+    to[2] = got.place;
+    to[3] = (u64)got.day;
+    to[4] = (u64)got.ticks;
+}
+
 /* The functions that are lent a list, or a buffer to be written. */
 static void call_with_lists(u64 function, const u64 *n, u64 *to)
 {
@@ -227,6 +240,14 @@ static void call_with_lists(u64 function, const u64 *n, u64 *to)
     case BATCH:
         note_answer(to, colliedash_batch((u32)n[0], (u32)n[1], list, many, into, room,
                                          bytes, size));
+        break;
+    case CONVERT_UTC:
+        note_answer(to, colliedash_convert_utc((u32)n[0], (u32)n[1], (i64)n[2], (i64)n[3],
+                                               list, many, bytes, size));
+        break;
+    case WRITE_UTC:
+        note_utc(to, colliedash_write_utc((u32)n[0], (u32)n[1], (i64)n[2], list, many,
+                                          bytes, size));
     }
 }
 
@@ -255,10 +276,12 @@ static void call(u64 function, const u64 *n, u64 *to)
 {
     if (function == NONE) return;
     if (function >= FUNCTIONS) stop("the bridge: a function that is not there\n");
-    if (function == READ_TABLE || function == WRITE_TABLE || function == BATCH)
+    switch (function) {
+    case READ_TABLE: case WRITE_TABLE: case BATCH: case CONVERT_UTC: case WRITE_UTC:
         call_with_lists(function, n, to);
-    else
-        call_plain(function, n, to);
+        break;
+    default: call_plain(function, n, to);
+    }
 }
 
 /* One write for each answer: its head and the buffer's bytes together. */

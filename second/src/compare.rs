@@ -12,10 +12,13 @@ mod stage;
 mod table_steps;
 mod tables;
 mod trial;
+mod utc;
 mod written_dates;
 
 pub use buffers::{blank, bytes_of_ticks};
-pub use interface::{Answer, Asked, Called, Date, Desk, Lent, Outcome, Reply, TableAnswer};
+pub use interface::{
+    Answer, Asked, Called, Date, Desk, Lent, Outcome, Reply, TableAnswer, UtcAnswer,
+};
 pub use ledger::Ledger;
 pub use own::Own;
 pub use stage::{Size, Stage};
@@ -42,7 +45,7 @@ impl Comparison {
 }
 
 /// Every comparison there is.
-pub const COMPARISONS: [Comparison; 12] = [
+pub const COMPARISONS: [Comparison; 16] = [
     Comparison {
         name: "colliedash_judge",
         run: tables::judge,
@@ -90,6 +93,22 @@ pub const COMPARISONS: [Comparison; 12] = [
     Comparison {
         name: "colliedash_batch",
         run: batches::batch,
+    },
+    Comparison {
+        name: "colliedash_convert_utc",
+        run: utc::convert_utc,
+    },
+    Comparison {
+        name: "colliedash_convert_utc, the reading alone",
+        run: utc::read_utc,
+    },
+    Comparison {
+        name: "colliedash_write_utc",
+        run: utc::write_utc,
+    },
+    Comparison {
+        name: "colliedash_write_utc, the writing alone",
+        run: utc::write_tai,
     },
 ];
 

@@ -2,15 +2,17 @@
 
 use crate::exact::nearest;
 use crate::refusal::{self, Refusal};
-use crate::scales::is_valid_epoch;
+use crate::scales::{Scale, is_valid_epoch, scale_of_code, scale_of_utc_code};
+use crate::utc::{Leaps, Utc};
 
 /// "A reading is a two-part Julian date in days, two doubles; or seconds past
-/// J2000, one double; or ticks."
+/// J2000, one double; or ticks." And since request 2026-01 UTC.
 #[derive(Clone, Copy, Debug)]
 pub enum Reading {
     TwoPart(f64, f64),
     SinceJ2000(f64),
     Ticks(i64),
+    Utc(Utc),
 }
 
 /// The ticks of a day and of a second.
@@ -65,10 +67,19 @@ fn valid_epoch(tick: i128) -> Result<i64, Refusal> {
 }
 
 impl Reading {
-    /// The epoch read, or refusal 2, 3 or 4. "Each date part is rounded to its
-    /// nearest tick (halves to the greater) and the two are added; seconds are
-    /// rounded once."
-    pub fn epoch(self) -> Result<i64, Refusal> {
+    /// What the code says of this reading. "Code 7 with another kind of reading,
+    /// or this kind with another code, is 1": None.
+    pub fn scale_of_code(self, code: u32) -> Option<Scale> {
+        match self {
+            Reading::Utc(_) => scale_of_utc_code(code),
+            _ => scale_of_code(code),
+        }
+    }
+
+    /// The epoch read, or refusal 2, 3, 5 or 4. "Each date part is rounded to
+    /// its nearest tick (halves to the greater) and the two are added; seconds
+    /// are rounded once." UTC is read as TAI, over its list.
+    pub fn epoch(self, leaps: Option<&Leaps>) -> Result<i64, Refusal> {
         match self {
             Reading::TwoPart(first, second) => {
                 judge_parts(&[first, second], GREATEST_DAYS)?;
@@ -80,6 +91,10 @@ impl Reading {
                 valid_epoch(ticks_of_double(seconds, SECOND) + J2000 - ORIGIN)
             }
             Reading::Ticks(tick) => valid_epoch(i128::from(tick)),
+            Reading::Utc(utc) => {
+                let leaps = leaps.expect("a UTC reading has its list");
+                valid_epoch(leaps.read(utc)?)
+            }
         }
     }
 }

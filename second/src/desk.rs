@@ -1,10 +1,15 @@
-//! Conversions and batches, in the order of 01's last paragraphs on refusals.
+//! Conversions, written UTC and batches, in the order of 01's last paragraphs on
+//! refusals and of request 2026-01.
 
 use crate::dates::Reading;
 use crate::ephemeris::{tdb_from_tt, tt_from_tdb};
 use crate::refusal::{self, Refusal};
-use crate::scales::{Scale, crosses_table, is_valid_epoch, linear_step, path_of_codes};
+use crate::scales::{
+    Scale, crosses_table, is_valid_epoch, linear_step, path_between, scale_of_code,
+    scale_of_utc_code,
+};
 use crate::table::{Judged, Table};
+use crate::utc::{Leaps, Utc};
 
 /// "Its answer carries the tick and the number of steps walked (0 to 4)."
 #[derive(Clone, Copy, Debug, PartialEq, Eq)]
@@ -56,11 +61,48 @@ fn walk(path: &[Scale], epoch: i64, table: Option<&Table>) -> Result<Converted, 
 
 /// "Order: 1 (from, then to), 8, then the table 10 to 16 if the path crosses TT
 /// to TDB, [...] then 2 over both parts, 3 over both parts [...], 4, then step
-/// by step". A single conversion has no 8.
-pub fn convert(from: u32, to: u32, reading: Reading, table: &Judged) -> Result<Converted, Refusal> {
-    let path = path_of_codes(from, to)?;
+/// by step". The list of TAI−UTC is judged, "7 [...] after 8 and before 10", for
+/// a UTC reading alone: "nor any path at a lent list it has no use for". Its 5
+/// comes "after 3". An answer that is a tick has no code 7.
+pub fn convert(
+    from: u32,
+    to: u32,
+    reading: Reading,
+    leaps: &[i64],
+    table: &Judged,
+) -> Result<Converted, Refusal> {
+    let path = path_between(reading.scale_of_code(from), scale_of_code(to))?;
+    let leaps = match reading {
+        Reading::Utc(_) => Some(Leaps::judge(leaps)?),
+        _ => None,
+    };
     let table = table_for(&path, table)?;
-    walk(&path, reading.epoch()?, table)
+    walk(&path, reading.epoch(leaps.as_ref())?, table)
+}
+
+/// A conversion that answers a written UTC. "Reading or writing UTC counts no
+/// step."
+#[derive(Clone, Copy, Debug, PartialEq, Eq)]
+pub struct Written {
+    pub utc: Utc,
+    pub steps: u32,
+}
+
+/// The same order, and 5 for "a written one after the steps". This answer has no
+/// other code than 7; 7 to 7 is a UTC reading written again, "over one list".
+pub fn write_utc(
+    from: u32,
+    to: u32,
+    reading: Reading,
+    leaps: &[i64],
+    table: &Judged,
+) -> Result<Written, Refusal> {
+    let path = path_between(reading.scale_of_code(from), scale_of_utc_code(to))?;
+    let leaps = Leaps::judge(leaps)?;
+    let table = table_for(&path, table)?;
+    let Converted { tick, steps } = walk(&path, reading.epoch(Some(&leaps))?, table)?;
+    let utc = leaps.write(tick)?;
+    Ok(Written { utc, steps })
 }
 
 /// An accepted batch: the second list, and the path's steps.
@@ -85,7 +127,8 @@ impl From<Refusal> for BatchRefusal {
 }
 
 /// "A batch converts a list of ticks into a second list of equal length. All
-/// are tried first"; "An empty batch still gets checks 1, 8 and the table."
+/// are tried first"; "An empty batch still gets checks 1, 8 and the table." "Code
+/// 7 in a batch [...] is still 1".
 pub fn batch(
     from: u32,
     to: u32,
@@ -93,7 +136,7 @@ pub fn batch(
     answers_length: usize,
     table: &Judged,
 ) -> Result<Batch, BatchRefusal> {
-    let path = path_of_codes(from, to)?;
+    let path = path_between(scale_of_code(from), scale_of_code(to))?;
     if ticks.len() != answers_length {
         return Err(Refusal::new(refusal::LENT_LENGTHS, 0).into());
     }
@@ -101,7 +144,7 @@ pub fn batch(
     let mut answers = Vec::new();
     for (index, tick) in ticks.iter().enumerate() {
         let converted = Reading::Ticks(*tick)
-            .epoch()
+            .epoch(None)
             .and_then(|epoch| walk(&path, epoch, table));
         answers.push(converted.map_err(|refusal| BatchRefusal {
             refusal,

@@ -1,5 +1,5 @@
 //! An independent second program for Colliedash, the timing desk: every rule of
-//! document 01 in one place, in 01's words. It judges the proved library.
+//! documents 01 and 02 in one place, in their words. It judges the proved library.
 
 pub mod blocks;
 pub mod bridge;
@@ -15,4 +15,5 @@ pub mod line;
 pub mod refusal;
 pub mod scales;
 pub mod table;
+pub mod utc;
 pub mod values;

@@ -42,8 +42,8 @@ fn understood(line: &[u8]) -> Option<[i64; 3]> {
     numbers?.try_into().ok()
 }
 
-/// "A code outside 0..6 is refusal 1, after 9." The desk's code is unsigned, so
-/// one that does not fit is any code above 6.
+/// "A code outside 0..6 is refusal 1, after 9", and 7 is still one of these. The
+/// desk's code is unsigned, so one that does not fit is any code above 6.
 fn desk_code(code: i64) -> u32 {
     u32::try_from(code).unwrap_or(u32::MAX)
 }
@@ -53,7 +53,7 @@ pub fn answer(line: &[u8], line_number: u64, table: &Judged) -> Result<(i64, Con
     let [from, to, tick] =
         understood(line).ok_or(Refusal::new(refusal::NOT_UNDERSTOOD, line_number))?;
     let reading = Reading::Ticks(tick);
-    let converted = convert(desk_code(from), desk_code(to), reading, table)?;
+    let converted = convert(desk_code(from), desk_code(to), reading, &[], table)?;
     Ok((to, converted))
 }
 

@@ -6,7 +6,8 @@ pub struct Refusal {
     pub place: u64,
 }
 
-/// Scale code above 6; the place is 0 from, 1 to.
+/// Scale code above 6; the place is 0 from, 1 to. "Code 7 with another kind of
+/// reading, or this kind with another code, is 1", too.
 pub const SCALE_CODE: u32 = 1;
 /// NaN or infinite; the place is the part, 0 or 1.
 pub const NOT_FINITE: u32 = 2;
@@ -14,8 +15,13 @@ pub const NOT_FINITE: u32 = 2;
 pub const BEYOND: u32 = 3;
 /// Epoch outside the range; the steps done, the one that led outside counted.
 pub const OUTSIDE_RANGE: u32 = 4;
+/// "A day, or a TAI tick to be written, before the list's first day, or ticks
+/// negative or at or past the day's end"; 0.
+pub const OUTSIDE_UTC: u32 = 5;
 /// Outside the table; the steps done.
 pub const OUTSIDE_TABLE: u32 = 6;
+/// The list of TAI−UTC breaks a rule; 0.
+pub const LEAPS_BROKEN: u32 = 7;
 /// Lent lengths don't fit; 0.
 pub const LENT_LENGTHS: u32 = 8;
 /// Text line not understood; the line, from 1.

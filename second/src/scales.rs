@@ -34,6 +34,15 @@ pub fn scale_of_code(code: u32) -> Option<Scale> {
     }
 }
 
+/// "UTC is code 7 for readings and written readings only", and these have no
+/// other code. Their TAI tick is what is converted: the path of code 7 is TAI's.
+pub fn scale_of_utc_code(code: u32) -> Option<Scale> {
+    match code {
+        7 => Some(Scale::Tai),
+        _ => None,
+    }
+}
+
 impl Scale {
     /// The neighbour on the way to TT. "The scales form one line with a
     /// branch: GPS, TAI, TT, then TT to TCG, and TT to TDB to TCB."
@@ -71,12 +80,11 @@ pub fn path(from: Scale, to: Scale) -> Vec<Scale> {
     unreachable!("both ways end at TT")
 }
 
-/// Refusal 1: "0 from, 1 to", and "1 (from, then to)".
-pub fn path_of_codes(from: u32, to: u32) -> Result<Vec<Scale>, Refusal> {
+/// The path between what the two codes are, or refusal 1: "0 from, 1 to", and
+/// "1 (from, then to)".
+pub fn path_between(from: Option<Scale>, to: Option<Scale>) -> Result<Vec<Scale>, Refusal> {
     let refused = |place| Refusal::new(refusal::SCALE_CODE, place);
-    let from = scale_of_code(from).ok_or(refused(0))?;
-    let to = scale_of_code(to).ok_or(refused(1))?;
-    Ok(path(from, to))
+    Ok(path(from.ok_or(refused(0))?, to.ok_or(refused(1))?))
 }
 
 /// Only the step between TT and TDB, either way, needs the table.

@@ -1,5 +1,5 @@
-//! `second values`: the values of 01, from one table, asked of a desk and of
-//! second itself.
+//! `second values`: the values of 01 and 02, from one table, asked of a desk and
+//! of second itself.
 
 mod amount;
 mod row;

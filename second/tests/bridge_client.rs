@@ -55,7 +55,7 @@ fn is_told(fault: &str, what: &str, in_functions: &[&str]) {
     }
 }
 
-const EVERY: [&str; 8] = [
+const EVERY: [&str; 10] = [
     "judge",
     "read_table",
     "write_table",
@@ -64,6 +64,8 @@ const EVERY: [&str; 8] = [
     "convert_date",
     "convert_j2000",
     "batch",
+    "convert_utc",
+    "write_utc",
 ];
 
 #[test]
@@ -148,7 +150,7 @@ fn compare_without_a_command_lists_every_comparison() {
 fn compare_tells_of_every_comparison_and_of_differences() {
     let (output, out, err) = compare(&[SECOND, "bridge", "ends"]);
     assert_eq!(output.status.code(), Some(1));
-    assert_eq!(out.matches("1 differences").count(), 12);
+    assert_eq!(out.matches("1 differences").count(), COMPARISONS.len());
     assert_eq!(err, "");
     let (output, out, _) = compare(&["false"]);
     assert_eq!((output.status.code(), out), (Some(1), String::new()));

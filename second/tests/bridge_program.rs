@@ -3,10 +3,11 @@
 
 use second::bridge::Bridge;
 use second::compare::{
-    Answer, Asked, Called, Date, Desk, Lent, Outcome, Reply, TableAnswer, bytes_of_ticks,
+    Answer, Asked, Called, Date, Desk, Lent, Outcome, Reply, TableAnswer, UtcAnswer, bytes_of_ticks,
 };
 use second::dates::Reading;
 use second::generate::{Random, any_double};
+use second::utc::Utc;
 use std::fs;
 use std::path::{Path, PathBuf};
 use std::process::Command;
@@ -47,7 +48,7 @@ fn archive(name: &str, files: &[&str]) -> (PathBuf, Command) {
 }
 
 static WHOLE: LazyLock<PathBuf> = LazyLock::new(|| {
-    let (folder, mut build) = archive("whole", &["tables", "conversions"]);
+    let (folder, mut build) = archive("whole", &["tables", "conversions", "utc"]);
     succeeds(&mut build);
     folder.join("bridge")
 });
@@ -238,6 +239,87 @@ fn batches_arrive_as_they_were_asked() {
     let called = clean(bridge.call(Asked::Batch { from, to }, &lent));
     let answers = bytes_of_ticks(&[8, -10, 0]);
     assert_eq!(called, (converted(2_003, 3, 3), answers));
+}
+
+/// A list and a table; the archive tells of both.
+fn list_and_table<'a>(list: &'a [i64], table: &'a [u8]) -> Lent<'a> {
+    Lent {
+        list,
+        ..Lent::table(table)
+    }
+}
+
+#[test]
+fn utc_readings_arrive_as_they_were_asked() {
+    let mut bridge = started(LIMIT);
+    let mut convert = |day, ticks, lent: &Lent| {
+        let (from, to) = (3, u32::MAX);
+        let reading = Reading::Utc(Utc { day, ticks });
+        clean(bridge.call(Asked::Convert { from, to, reading }, lent)).0
+    };
+    let lent = list_and_table(&[5, -6, 7], &[8, 9]);
+    for (day, ticks) in [(i64::MIN, i64::MAX), (-1, 0), (41_317, 86_400_000_000_000)] {
+        let [place, index] = [day, ticks].map(i64::cast_unsigned);
+        assert_eq!(
+            convert(day, ticks, &lent),
+            converted(place, index, 7_003_002)
+        );
+        assert_eq!(convert(day, ticks, &null()), converted(place, index, -1));
+        let empty = convert(day, ticks, &Lent::default());
+        assert_eq!(empty, converted(place, index, 0));
+    }
+}
+
+#[test]
+fn ticks_to_write_as_utc_arrive_as_they_were_asked() {
+    let mut bridge = started(LIMIT);
+    let mut write = |tick, lent: &Lent| {
+        let (from, to) = (u32::MAX, 7);
+        clean(bridge.call(Asked::WriteUtc { from, to, tick }, lent)).0
+    };
+    let written = |place, day, ticks| {
+        Reply::Utc(UtcAnswer {
+            number: u32::MAX,
+            steps: 7,
+            place,
+            day,
+            ticks,
+        })
+    };
+    let lent = list_and_table(&[5, -6], &[8, 9]);
+    for tick in [i64::MIN, -1, 0, i64::MAX] {
+        assert_eq!(write(tick, &lent), written(9, tick, -5_997_998));
+        assert_eq!(write(tick, &null()), written(256, tick, -1));
+        assert_eq!(write(tick, &Lent::default()), written(256, tick, 0));
+    }
+}
+
+#[test]
+fn misdeeds_of_the_functions_of_utc_are_seen() {
+    let mut bridge = started(LIMIT);
+    let utc = Utc { day: 0, ticks: 0 };
+    let convert = Asked::Convert {
+        from: 7,
+        to: 2,
+        reading: Reading::Utc(utc),
+    };
+    let write = Asked::WriteUtc {
+        from: 2,
+        to: 7,
+        tick: 0,
+    };
+    let mut seen = |asked, list: &[i64], table: &[u8]| {
+        let called = bridge.call(asked, &list_and_table(list, table));
+        called.expect("an answer").beside
+    };
+    let (changes, before) = ([b'c'.into(), 1], [b'<'.into(), 1]);
+    let changed = ["the list lent to read was changed"];
+    assert_eq!(seen(convert, &changes, b"."), changed);
+    let written = ["bytes beside the lent table were written"];
+    assert_eq!(seen(convert, &[1, 2], b">"), written);
+    let written = ["bytes beside the list lent to read were written"];
+    assert_eq!(seen(write, &before, b"."), written);
+    assert_eq!(seen(write, &[1, 2], b"."), [""; 0]);
 }
 
 #[test]

@@ -15,9 +15,11 @@ const CONVERSIONS: [u32; 11] = [0, 1, 4, 6, 10, 11, 12, 13, 14, 15, 16];
 const READ_AND_CONVERTED: [u32; 13] = [0, 1, 2, 3, 4, 6, 10, 11, 12, 13, 14, 15, 16];
 const STEPS: [u32; 10] = [0, 4, 6, 10, 11, 12, 13, 14, 15, 16];
 const READINGS: [u32; 4] = [0, 2, 3, 4];
+const UTC: [u32; 14] = [0, 1, 4, 5, 6, 7, 8, 10, 11, 12, 13, 14, 15, 16];
+const UTC_ALONE: [u32; 5] = [0, 4, 5, 7, 8];
 
 /// Every number that each function can give to what it is asked.
-const NUMBERS: [(&str, &[u32]); 12] = [
+const NUMBERS: [(&str, &[u32]); 16] = [
     ("colliedash_judge", &[0, 10, 11, 12, 13, 14, 15, 16]),
     ("colliedash_read_table", &[0, 8, 10, 11, 12, 13, 14, 15, 16]),
     ("colliedash_write_table", &[0, 8, 13, 14, 15, 16]),
@@ -33,6 +35,10 @@ const NUMBERS: [(&str, &[u32]); 12] = [
         "colliedash_batch",
         &[0, 1, 4, 6, 8, 10, 11, 12, 13, 14, 15, 16],
     ),
+    ("colliedash_convert_utc", &UTC),
+    ("colliedash_convert_utc, the reading alone", &UTC_ALONE),
+    ("colliedash_write_utc", &UTC),
+    ("colliedash_write_utc, the writing alone", &UTC_ALONE),
 ];
 
 #[test]

@@ -25,7 +25,7 @@ fn is_reported_of_readings(name: &str, change: impl Fn((f64, f64), &mut Answer))
         let parts = match reading(asked) {
             Reading::TwoPart(first, second) => (first, second),
             Reading::SinceJ2000(seconds) => (seconds, 0.0),
-            Reading::Ticks(tick) => panic!("{tick}"),
+            other => panic!("{other:?}"),
         };
         change(parts, answer(called));
     });
@@ -65,7 +65,7 @@ fn a_wrong_tick_of_a_reading_is_reported() {
     // The sum of the parts is rounded, not each part.
     let sum = |(first, second): (f64, f64), answer: &mut Answer| {
         if answer.number == 0 {
-            let epoch = Reading::TwoPart(first + second, 0.0).epoch();
+            let epoch = Reading::TwoPart(first + second, 0.0).epoch(None);
             answer.tick = epoch.unwrap_or_default();
         }
     };

@@ -32,7 +32,7 @@ fn flat_table(start: i64, length: i64, count: u32, c_0: i64) -> Judged {
 }
 
 fn ticks(from: u32, to: u32, tick: i64, table: &Judged) -> Result<Converted, Refusal> {
-    convert(from, to, Reading::Ticks(tick), table)
+    convert(from, to, Reading::Ticks(tick), &[], table)
 }
 
 fn refused<T>(number: u32, place: u64) -> Result<T, Refusal> {
@@ -134,7 +134,7 @@ fn refusal_1_from_then_to_before_all_else() {
         assert_eq!(ticks(3, bad, i64::MAX, &table), refused(1, 1));
         assert_eq!(ticks(bad, bad, i64::MAX, &table), refused(1, 0));
         let nan = Reading::TwoPart(f64::NAN, f64::NAN);
-        assert_eq!(convert(5, bad, nan, &table), refused(1, 1));
+        assert_eq!(convert(5, bad, nan, &[], &table), refused(1, 1));
     }
     assert!(ticks(6, 6, 0, &table).is_ok());
 }
@@ -149,15 +149,15 @@ fn the_table_is_told_before_the_reading() {
         Reading::SinceJ2000(f64::INFINITY),
     ] {
         for (from, to) in [(3, 5), (5, 3), (1, 6), (6, 1), (4, 5), (0, 6)] {
-            assert_eq!(convert(from, to, reading, &broken), refused(14, 77));
+            assert_eq!(convert(from, to, reading, &[], &broken), refused(14, 77));
         }
     }
     assert_eq!(
-        convert(5, 6, Reading::Ticks(i64::MAX), &broken),
+        convert(5, 6, Reading::Ticks(i64::MAX), &[], &broken),
         refused(4, 0)
     );
     assert_eq!(
-        convert(1, 4, Reading::TwoPart(0.0, f64::NAN), &broken),
+        convert(1, 4, Reading::TwoPart(0.0, f64::NAN), &[], &broken),
         refused(2, 1)
     );
 }

@@ -69,10 +69,14 @@ fn exact_halves_go_to_the_greater() {
 #[test]
 fn parts_are_rounded_before_they_are_added() {
     let half = 2f64.powi(-17);
-    let whole = Reading::TwoPart(2_443_144.5, 0.0).epoch().unwrap();
-    let both = Reading::TwoPart(2_443_144.5 + half, half).epoch().unwrap();
+    let whole = Reading::TwoPart(2_443_144.5, 0.0).epoch(None).unwrap();
+    let both = Reading::TwoPart(2_443_144.5 + half, half)
+        .epoch(None)
+        .unwrap();
     assert_eq!(both - whole, 2 * 659_179_688);
-    let against = Reading::TwoPart(2_443_144.5 + half, -half).epoch().unwrap();
+    let against = Reading::TwoPart(2_443_144.5 + half, -half)
+        .epoch(None)
+        .unwrap();
     assert_eq!(against - whole, 1);
 }
 
@@ -80,29 +84,29 @@ fn parts_are_rounded_before_they_are_added() {
 fn the_origin_and_j2000() {
     assert_eq!(J2000 - ORIGIN, 725_803_167_816_000_000);
     assert_eq!(
-        Reading::SinceJ2000(0.0).epoch(),
+        Reading::SinceJ2000(0.0).epoch(None),
         Ok(725_803_167_816_000_000)
     );
     assert_eq!(
-        Reading::SinceJ2000(-0.0).epoch(),
+        Reading::SinceJ2000(-0.0).epoch(None),
         Ok(725_803_167_816_000_000)
     );
     assert_eq!(
-        Reading::SinceJ2000(1.5).epoch(),
+        Reading::SinceJ2000(1.5).epoch(None),
         Ok(725_803_169_316_000_000)
     );
     assert_eq!(
         Reading::SinceJ2000(-725_803_167.816)
-            .epoch()
+            .epoch(None)
             .map(|t| t.abs() < 100),
         Ok(true)
     );
     assert_eq!(
-        Reading::TwoPart(0.0, 2_443_144.5).epoch(),
+        Reading::TwoPart(0.0, 2_443_144.5).epoch(None),
         Ok(-32_184_000_000)
     );
     assert_eq!(
-        Reading::TwoPart(-0.0, 2_443_144.5).epoch(),
+        Reading::TwoPart(-0.0, 2_443_144.5).epoch(None),
         Ok(-32_184_000_000)
     );
 }
@@ -111,15 +115,18 @@ fn the_origin_and_j2000() {
 fn refusal_2_over_both_parts_comes_before_3() {
     let beyond = 6e6;
     for strange in [f64::NAN, -f64::NAN, f64::INFINITY, f64::NEG_INFINITY] {
-        assert_eq!(Reading::TwoPart(strange, 0.0).epoch(), refused(2, 0));
-        assert_eq!(Reading::TwoPart(strange, strange).epoch(), refused(2, 0));
-        assert_eq!(Reading::TwoPart(strange, beyond).epoch(), refused(2, 0));
-        assert_eq!(Reading::TwoPart(beyond, strange).epoch(), refused(2, 1));
-        assert_eq!(Reading::SinceJ2000(strange).epoch(), refused(2, 0));
+        assert_eq!(Reading::TwoPart(strange, 0.0).epoch(None), refused(2, 0));
+        assert_eq!(
+            Reading::TwoPart(strange, strange).epoch(None),
+            refused(2, 0)
+        );
+        assert_eq!(Reading::TwoPart(strange, beyond).epoch(None), refused(2, 0));
+        assert_eq!(Reading::TwoPart(beyond, strange).epoch(None), refused(2, 1));
+        assert_eq!(Reading::SinceJ2000(strange).epoch(None), refused(2, 0));
     }
-    assert_eq!(Reading::TwoPart(beyond, -beyond).epoch(), refused(3, 0));
-    assert_eq!(Reading::TwoPart(0.0, f64::MAX).epoch(), refused(3, 1));
-    assert_eq!(Reading::TwoPart(f64::MIN, 0.0).epoch(), refused(3, 0));
+    assert_eq!(Reading::TwoPart(beyond, -beyond).epoch(None), refused(3, 0));
+    assert_eq!(Reading::TwoPart(0.0, f64::MAX).epoch(None), refused(3, 1));
+    assert_eq!(Reading::TwoPart(f64::MIN, 0.0).epoch(None), refused(3, 0));
 }
 
 #[test]
@@ -127,29 +134,29 @@ fn refusal_3_with_its_neighbours() {
     let most = 5_000_000.0_f64;
     for part in [most, -most] {
         // At the limit the part passes, and the sum is what 4 judges.
-        assert_eq!(Reading::TwoPart(part, 0.0).epoch(), refused(4, 0));
-        assert_eq!(Reading::TwoPart(part, -part).epoch(), refused(4, 0));
+        assert_eq!(Reading::TwoPart(part, 0.0).epoch(None), refused(4, 0));
+        assert_eq!(Reading::TwoPart(part, -part).epoch(None), refused(4, 0));
         let over = if part > 0.0 {
             part.next_up()
         } else {
             part.next_down()
         };
-        assert_eq!(Reading::TwoPart(over, 0.0).epoch(), refused(3, 0));
-        assert_eq!(Reading::TwoPart(0.0, over).epoch(), refused(3, 1));
-        assert_eq!(Reading::TwoPart(over, over).epoch(), refused(3, 0));
+        assert_eq!(Reading::TwoPart(over, 0.0).epoch(None), refused(3, 0));
+        assert_eq!(Reading::TwoPart(0.0, over).epoch(None), refused(3, 1));
+        assert_eq!(Reading::TwoPart(over, over).epoch(None), refused(3, 0));
     }
     let other = 2_443_144.5 - most;
     for reading in [Reading::TwoPart(most, other), Reading::TwoPart(other, most)] {
-        assert_eq!(reading.epoch(), Ok(-32_184_000_000));
+        assert_eq!(reading.epoch(None), Ok(-32_184_000_000));
     }
     for seconds in [1e10_f64, -1e10] {
-        assert_eq!(Reading::SinceJ2000(seconds).epoch(), refused(4, 0));
+        assert_eq!(Reading::SinceJ2000(seconds).epoch(None), refused(4, 0));
         let over = if seconds > 0.0 {
             seconds.next_up()
         } else {
             seconds.next_down()
         };
-        assert_eq!(Reading::SinceJ2000(over).epoch(), refused(3, 0));
+        assert_eq!(Reading::SinceJ2000(over).epoch(None), refused(3, 0));
     }
 }
 
@@ -157,23 +164,26 @@ fn refusal_3_with_its_neighbours() {
 fn refusal_4_with_its_neighbours() {
     for end in [GREATEST_EPOCH, -GREATEST_EPOCH] {
         let outward = end.signum();
-        assert_eq!(Reading::Ticks(end).epoch(), Ok(end));
-        assert_eq!(Reading::Ticks(end + outward).epoch(), refused(4, 0));
-        assert_eq!(Reading::Ticks(outward * i64::MAX).epoch(), refused(4, 0));
+        assert_eq!(Reading::Ticks(end).epoch(None), Ok(end));
+        assert_eq!(Reading::Ticks(end + outward).epoch(None), refused(4, 0));
+        assert_eq!(
+            Reading::Ticks(outward * i64::MAX).epoch(None),
+            refused(4, 0)
+        );
         // One tick more in the second part, whose doubles are fine enough.
         let (first, second) = write_date(end).unwrap();
-        assert_eq!(Reading::TwoPart(first, second).epoch(), Ok(end));
+        assert_eq!(Reading::TwoPart(first, second).epoch(None), Ok(end));
         let tick = outward as f64 / DAY as f64;
         assert_eq!(
-            Reading::TwoPart(first, second + tick).epoch(),
+            Reading::TwoPart(first, second + tick).epoch(None),
             refused(4, 0)
         );
         assert_eq!(
-            Reading::TwoPart(first, second - tick).epoch(),
+            Reading::TwoPart(first, second - tick).epoch(None),
             Ok(end - outward)
         );
     }
-    assert_eq!(Reading::Ticks(i64::MIN).epoch(), refused(4, 0));
+    assert_eq!(Reading::Ticks(i64::MIN).epoch(None), refused(4, 0));
 }
 
 #[test]
@@ -181,9 +191,12 @@ fn the_seconds_of_the_range_end() {
     // 5274196832.184 s is 6·10^18 ticks; the double next to it is off by some
     // hundred ticks, so that one neighbour is inside and the other outside.
     let end = 5_274_196_832.184_f64;
-    let inside = Reading::SinceJ2000(end.next_down()).epoch().unwrap();
+    let inside = Reading::SinceJ2000(end.next_down()).epoch(None).unwrap();
     assert!((GREATEST_EPOCH - 2_000..=GREATEST_EPOCH).contains(&inside));
-    assert_eq!(Reading::SinceJ2000(end.next_up()).epoch(), refused(4, 0));
+    assert_eq!(
+        Reading::SinceJ2000(end.next_up()).epoch(None),
+        refused(4, 0)
+    );
 }
 
 #[test]
@@ -202,7 +215,7 @@ fn a_written_date_reads_back_as_the_same_tick() {
                 assert!(is_valid_epoch(i128::from(tick)));
                 assert_eq!(first.fract(), 0.5);
                 assert!((0.0..1.0).contains(&second));
-                assert_eq!(Reading::TwoPart(first, second).epoch(), Ok(tick));
+                assert_eq!(Reading::TwoPart(first, second).epoch(None), Ok(tick));
                 written += 1;
             }
         }
@@ -236,14 +249,14 @@ fn generated_readings_meet_every_answer() {
     let ticks: Vec<i64> = (0..100).map(|_| random_tick(&mut random)).collect();
     let mut met = std::collections::BTreeSet::new();
     for (first, second) in date_pairs(&mut random, &ticks, 2_000) {
-        let refusal = Reading::TwoPart(first, second).epoch().err();
+        let refusal = Reading::TwoPart(first, second).epoch(None).err();
         met.insert(refusal.map_or((0, 0), |r| (r.number, r.place)));
     }
     let expected = [(0, 0), (2, 0), (2, 1), (3, 0), (3, 1), (4, 0)];
     assert_eq!(met.into_iter().collect::<Vec<_>>(), expected);
     let mut met = std::collections::BTreeSet::new();
     for seconds in seconds_past_j2000(&mut random, &ticks, 1_000) {
-        let refusal = Reading::SinceJ2000(seconds).epoch().err();
+        let refusal = Reading::SinceJ2000(seconds).epoch(None).err();
         met.insert(refusal.map_or((0, 0), |r| (r.number, r.place)));
     }
     assert_eq!(

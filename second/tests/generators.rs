@@ -80,7 +80,7 @@ fn dates_to_read_reach_every_limit_and_both_ends() {
     let dates = read_dates(&mut random, 8_000);
     let days = |tick: i64| 2_443_144.5 + tick as f64 / DAY as f64;
     let outside = |part: f64| part < days(-GREATEST_EPOCH) || part > days(GREATEST_EPOCH);
-    let read = |(first, second): &(f64, f64)| Reading::TwoPart(*first, *second).epoch();
+    let read = |(first, second): &(f64, f64)| Reading::TwoPart(*first, *second).epoch(None);
     let far = |pair: &&(f64, f64)| outside(pair.0) && outside(pair.1) && pair.0.abs() > 1e5;
     let inside = dates.iter().filter(far).filter(|pair| read(pair).is_ok());
     assert!(inside.count() > 100);
@@ -116,7 +116,7 @@ fn seconds_to_read_reach_every_limit() {
             .filter(move |x| is_half(**x, 10) && **x * sign > 0.0)
     };
     assert!(halves(1.0).count() > 100 && halves(-1.0).count() > 100);
-    let near_end = |x: &&f64| match Reading::SinceJ2000(**x).epoch() {
+    let near_end = |x: &&f64| match Reading::SinceJ2000(**x).epoch(None) {
         Ok(tick) => GREATEST_EPOCH - tick.abs() < 1 << 20,
         Err(_) => false,
     };

@@ -51,6 +51,12 @@ fn a_row_that_says_another_answer_is_told() {
         "| judge | n=0 S=0 H=10^9 G=2 c=0,1025 | passes",
         "| read | n=0 S=0 H=10^9 G=2 c=0,1024 | refused 16 at 1",
         "| write | n=0 S=0 H=10^9 G=1 c=2^40 | refused 14 at 0",
+        "| UTC day 41317 0 to TAI | leaps=41317,10 | -157852822184000001, 0 steps",
+        "| UTC day 41317 0 to TAI | leaps=41317,10,41318 | -157852822184000000, 0 steps",
+        "| TAI 0 to UTC | leaps=real | day 43144 16184000001, 0 steps",
+        "| TAI 0 to UTC | leaps=real | day 43144 16184000000, 1 step",
+        "| TAI 0 to UTC | leaps=41317,10 | day 43144 16184000000, 0 steps",
+        "| UTC day 43144 0 to TDB | leaps=real n=0 S=0 H=10^9 G=1 c=0 | 16*10^9, 2 steps",
     ] {
         let told = first_difference(wrong, |_, _, _| ());
         let line = format!("line 1, {wrong}: the library answers ");
@@ -61,21 +67,33 @@ fn a_row_that_says_another_answer_is_told() {
 /// Every function's answer is looked at, and the buffer that it was lent.
 #[test]
 fn another_answer_than_the_page_s_is_told() {
-    let told = first_difference(PAGE, |_, _, called| match &mut called.reply {
-        Reply::Answer(answer) => answer.tick += i64::from(answer.tick == 250_000_000),
-        Reply::Date(_) | Reply::Table(_) => {}
+    let told = first_difference(PAGE, |_, _, called| {
+        if let Reply::Answer(answer) = &mut called.reply {
+            answer.tick += i64::from(answer.tick == 250_000_000);
+        }
     });
     assert!(told.contains("TT 250000000 to TDB"), "{told}");
-    let told = first_difference(PAGE, |_, _, called| match &mut called.reply {
-        Reply::Table(table) => table.number = 0,
-        Reply::Answer(_) | Reply::Date(_) => {}
+    let told = first_difference(PAGE, |_, _, called| {
+        if let Reply::Table(table) = &mut called.reply {
+            table.number = 0;
+        }
     });
     assert!(told.contains("10^9+1"), "{told}");
-    let told = first_difference(PAGE, |_, _, called| match &mut called.reply {
-        Reply::Date(date) => date.second = -date.second,
-        Reply::Answer(_) | Reply::Table(_) => {}
+    let told = first_difference(PAGE, |_, _, called| {
+        if let Reply::Date(date) = &mut called.reply {
+            date.second = -date.second;
+        }
     });
     assert!(told.contains("date of -32184000000"), "{told}");
+    // The leap second is taken for the next day's first.
+    let told = first_difference(PAGE, |_, _, called| {
+        if let Reply::Utc(utc) = &mut called.reply
+            && utc.ticks == 86_400_000_000_000
+        {
+            (utc.day, utc.ticks) = (utc.day + 1, 0);
+        }
+    });
+    assert!(told.contains("TAI 1262304003816000000 to UTC"), "{told}");
     let told = first_difference(PAGE, |_, _, called| {
         if let Some(last) = called.buffer.last_mut() {
             *last ^= 1;
@@ -93,7 +111,7 @@ fn a_row_that_is_not_understood_ends_the_run() {
         "| TCB 0 to TDB | -65500, 1 step",
         "| TCB 0 to TDB | | -65500",
         "| TCB zero to TDB | | -65500, 1 step",
-        "| UTC 0 to TDB | | -65500, 1 step",
+        "| UT1 0 to TDB | | -65500, 1 step",
         "| TCB 0 | | -65500, 1 step",
         "| TCB 0 to TDB | | refused 4",
         "| TCB (0) to TDB | | refused 4 at 0",
@@ -103,6 +121,14 @@ fn a_row_that_is_not_understood_ends_the_run() {
         "| judge | n=0 S=0 H=10^9 G=1 | passes",
         "| judge | n=0 S=0 H=10^9 G=1 c=0 | 0, 1 step",
         "| date of 0 | n=0 S=0 H=10^9 G=1 c=0 | (2443144.5, 0)",
+        "| UTC day 41317 to TAI | leaps=41317,10 | refused 5 at 0",
+        "| UTC day 41317 0 0 to TAI | leaps=41317,10 | refused 5 at 0",
+        "| UTC day 41317 0 to TAI | leaps=41317,ten | refused 5 at 0",
+        "| UTC day 41317 0 to TAI | leaps=41317,10 leaps=41317,10 | refused 5 at 0",
+        "| UTC day 41317 0 to TAI | 41317,10 | refused 5 at 0",
+        "| UTC day 41317 0 to TAI | leaps=41317,10 | day 41317 0, 0 steps",
+        "| TAI 0 to UTC | leaps=41317,10 | 0, 0 steps",
+        "| judge | leaps=41317,10 n=0 S=0 H=10^9 G=1 c=0 | passes",
     ] {
         let why = run(wrong, &mut Own::default()).unwrap_err();
         assert_eq!(why, format!("line 1, {wrong}: not understood"));
@@ -142,7 +168,7 @@ fn table(degree: u32, coefficients: &[i64]) -> Judged {
 }
 
 fn tick(from: u32, to: u32, tick: i64, table: &Judged) -> Result<i64, Refusal> {
-    let answer = convert(from, to, Reading::Ticks(tick), table)?;
+    let answer = convert(from, to, Reading::Ticks(tick), &[], table)?;
     Ok(answer.tick)
 }
 

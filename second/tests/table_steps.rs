@@ -10,11 +10,11 @@ use second::scales::GREATEST_EPOCH;
 use second::table::{Judged, Table};
 
 fn forward(tick: i64, table: &Judged) -> Result<Converted, Refusal> {
-    convert(3, 5, Reading::Ticks(tick), table)
+    convert(3, 5, Reading::Ticks(tick), &[], table)
 }
 
 fn back(tick: i64, table: &Judged) -> Result<Converted, Refusal> {
-    convert(5, 0, Reading::Ticks(tick), table)
+    convert(5, 0, Reading::Ticks(tick), &[], table)
 }
 
 fn stepped(tick: i64) -> Result<Converted, Refusal> {

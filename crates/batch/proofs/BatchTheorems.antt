@@ -9,6 +9,7 @@ use borrow.Author.Tests.{eqb-true, eq-eqb}
 use lib.Dec.{eqb}
 use lib.IntN.{ℤ, pos}
 use lib.ListN.{length, getD}
+use Rattle.numbers.proofs.Flags.{both}
 use Rattle.numbers.proofs.Places.{map-at}
 use Rattle.scales.specs.declared.answer.Answer.{Answer}
 use Rattle.scales.specs.declared.answer.Answer.the-variants as Answer
@@ -20,15 +21,16 @@ use Rattle.scales.specs.Path.{steps}
 use Rattle.scales.specs.Scales.{named}
 use Rattle.blocks.specs.Judging.{judged}
 use Rattle.dates.specs.declared.reading.Reading.the-variants.{Ticks}
+use Rattle.dates.specs.Readings.{readOf}
 use Rattle.entries.specs.declared.batched.Batched.{Batched}
 use Rattle.entries.specs.declared.batched.Batched.the-variants.{Converted, Refused}
 use Rattle.desk.specs.Order.{Check, passes, refuses, settled}
 use Rattle.opened.specs.Opened.{coefficientsIn}
-use Rattle.desk.specs.Conversion.{answering, heldBy, convertJudged, convertOf}
+use Rattle.desk.specs.Conversion.{answering, heldBy, convertRead, convertInto, convertOf}
 use Rattle.entries.specs.Entries.{entryOf, triedOf}
 use Rattle.entries.proofs.TriedLists.{never-both, FirstRefused, tried-accepted, tried-refused}
 use Rattle.batch.specs.Batch.{batchSettled, batchOf, batchInto}
-use Rattle.desk.proofs.Asking.{settled-fits}
+use Rattle.desk.proofs.Asking.{settled-lent}
 use Rattle.desk.proofs.Steps.{conversion-steps}
 
 -- ---- a batch, by the conversions of its entries where there is an entry, trying what is settled
@@ -49,7 +51,7 @@ check-accepted (refuses refusal) batched e = never-both refl e
 module _ (from to : ℕ) (bytes : List ℕ) where
   -- the conversion of one entry
   abbrev conversion : ℤ → Answer
-  conversion tick = convertOf from to (Ticks tick) bytes
+  conversion tick = convertOf from to (Ticks tick) [] bytes
 
   -- the same entry where all is settled
   abbrev entry : ℤ → Answer
@@ -61,10 +63,10 @@ module _ (from to : ℕ) (bytes : List ℕ) where
   -- where there is an entry, a batch tries the conversions of its entries
   pub batch-tried : (ticks : List ℤ) (many : ℕ) → length ticks ≡ many → 0 < length ticks
       → batchOf from to ticks many bytes ≡ triedOf conversion many-steps 0 ticks
-  unfolding batchOf convertOf convertJudged settled
+  unfolding batchOf convertInto convertRead settled readOf
   batch-tried [] many long some = absurd (not-suc-le-zero some)
   batch-tried (tick ∷ more) many long some =
-      rw (eq-eqb _ _ long) (check-tried (settled P.Reading from to true (judged bytes)) entry many-steps tick more)
+      rw (eq-eqb _ _ long) (check-tried (settled P.Reading P.Reading from to true true (judged bytes)) entry many-steps tick more)
 
   -- 'the earliest refusal is the batch's, with its index': before it every conversion is accepted,
   -- at it the conversion is refused the same
@@ -76,15 +78,15 @@ module _ (from to : ℕ) (bytes : List ℕ) where
       subst (FirstRefused conversion ticks refusal) (sym (told .1 ∙ zero-add (told .0))) (told .2)
 
   module _ (ticks : List ℤ) (many : ℕ) {n : ℕ} (accepted : batchOf from to ticks many bytes ≡ Converted n) where
-    was-settled : (settled P.Batch from to (eqb (length ticks) many) (judged bytes) ≡ passes)
+    was-settled : (settled P.Batch P.Batch from to (eqb (length ticks) many) true (judged bytes) ≡ passes)
         × (triedOf entry many-steps 0 ticks ≡ Converted n)
     unfolding batchOf
     was-settled =
-        check-accepted (settled P.Batch from to (eqb (length ticks) many) (judged bytes)) (triedOf entry many-steps 0 ticks) accepted
+        check-accepted (settled P.Batch P.Batch from to (eqb (length ticks) many) true (judged bytes)) (triedOf entry many-steps 0 ticks) accepted
 
     -- 'into a second list of equal length'
     accepted-long : length ticks ≡ many
-    accepted-long = eqb-true _ _ (settled-fits P.Batch from to _ (judged bytes) (was-settled .0))
+    accepted-long = eqb-true _ _ (both _ _ (settled-lent P.Batch P.Batch from to (eqb (length ticks) many) true (judged bytes) (was-settled .0)) .0)
 
     -- 'An accepted batch answers the path's steps'
     pub accepted-steps : n ≡ steps (named from) (named to)
@@ -96,7 +98,7 @@ module _ (from to : ℕ) (bytes : List ℕ) where
     accepted-entries i h =
         let some : 0 < length ticks = omega arith in
         let told = tried-accepted conversion _ 0 ticks (sym (batch-tried ticks many accepted-long some) ∙ accepted) .1 i h in
-        let same : told .1 ≡ n = conversion-steps from to (Ticks (getD ticks i (pos 0))) bytes (told .2) ∙ sym accepted-steps in
+        let same : told .1 ≡ n = conversion-steps P.Reading from to (Ticks (getD ticks i (pos 0))) [] bytes (told .2) ∙ sym accepted-steps in
         (told .0, told .2 ∙ ap (Answer.Converted (told .0)) same)
 
   -- and the second list holds their ticks, place by place

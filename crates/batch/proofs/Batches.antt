@@ -4,10 +4,10 @@ use mathlib.Core.Path.{_≡_, refl, sym, _∙_, ap}
 use mathlib.Core.Bool.{Bool, true}
 use mathlib.Core.List.{List, [], _∷_, map}
 use Prim.Native.Nat.{ℕ, suc}
-use native.Mathlib.Omega.{arith}
 use lib.Dec.{eqb}
 use lib.IntN.{ℤ}
 use lib.ListN.{length}
+use Rattle.numbers.proofs.Flags.{both}
 use Rattle.scales.specs.declared.answer.Answer.{Answer}
 use Rattle.scales.specs.declared.refusal.Refusal.{Refusal}
 use Rattle.scales.specs.declared.scale.Purpose.the-variants as P
@@ -19,7 +19,7 @@ use Rattle.blocks.specs.declared.answer.Judged.{Judged}
 use Rattle.blocks.specs.declared.answer.Judged.the-variants as J
 use Rattle.blocks.specs.Judging.{judged}
 use Rattle.dates.specs.declared.reading.Reading.the-variants.{Ticks}
-use Rattle.dates.specs.Readings.{readOf}
+use Rattle.dates.specs.Readings.{inRange, readOf}
 use Rattle.desk.specs.declared.asked.Asked.{Asked}
 use Rattle.desk.specs.declared.asked.Asked.the-variants as A
 use Rattle.entries.specs.declared.batched.Batched.{Batched}
@@ -28,7 +28,7 @@ use Rattle.walk.specs.declared.kept.Kept.the-variants as K
 use Rattle.opened.specs.Opened.{coefficientsIn}
 use Rattle.desk.specs.Conversion.{heldBy, convertOf}
 use Rattle.desk.specs.Inner.{askedOf, convertAsked}
-use Rattle.desk.proofs.Asking.{asked-fits, settledBy, Between, asks, between-unseen, over-bytes}
+use Rattle.desk.proofs.Asking.{asked-lent, settledBy, Between, asks, between-unseen, into}
 use Rattle.entries.specs.Entries.{entryOf, triedOf, allTried}
 use Rattle.filling.proofs.Filling.{filled-not}
 use Rattle.batch.specs.Batch.{batchSettled, batchOf, batchInto, HasConverted}
@@ -47,17 +47,16 @@ module _ (from to : Scale) (ticks answers : List ℤ) (bytes : List ℕ) where
   filled-judged refusal e = filled-not refusal 0 (rw e)
 
 -- ---- what is asked of an entry alone
-pub asked-alone : (from to : ℕ) (fits : Bool) (asked : Asked) → askedOf P.Batch from to fits ≡ asked
-    → ((refusal : Refusal) → asked ≡ A.Refused refusal → ⊥) → askedOf P.Reading from to true ≡ asked
+pub batch-fits : (from to : ℕ) (fits : Bool) (asked : Asked) → askedOf P.Batch P.Batch from to fits true ≡ asked
+    → ((refusal : Refusal) → asked ≡ A.Refused refusal → ⊥) → fits ≡ true
+batch-fits from to fits asked e sound = both fits true (asked-lent P.Batch P.Batch from to fits true asked e sound) .0
+
+pub asked-alone : (from to : ℕ) (fits : Bool) (asked : Asked) → askedOf P.Batch P.Batch from to fits true ≡ asked
+    → ((refusal : Refusal) → asked ≡ A.Refused refusal → ⊥)
+    → askedOf P.Reading P.Reading from to true true ≡ asked
 unfolding askedOf
 asked-alone from to fits asked e sound =
-    ap (askedOf P.Batch from to) (sym (asked-fits P.Batch from to fits asked e sound)) ∙ e
-
-pub plain-sound : (start end : Scale) (refusal : Refusal) → A.Plain start end ≡ A.Refused refusal → ⊥
-plain-sound start end refusal e = let z : _≡_ {A = ℕ} 0 1 = cc in omega arith
-
-pub crossing-sound : (start end : Scale) (refusal : Refusal) → A.Crossing start end ≡ A.Refused refusal → ⊥
-crossing-sound start end refusal e = let z : _≡_ {A = ℕ} 0 1 = cc in omega arith
+    ap (λ (f : Bool). askedOf P.Batch P.Batch from to f true) (sym (batch-fits from to fits asked e sound)) ∙ e
 
 -- ---- the whole rule
 tried-same : (entry entry' : ℤ → Answer) → ((tick : ℤ) → entry tick ≡ entry' tick) → (steps index : ℕ) (ticks : List ℤ)
@@ -77,23 +76,23 @@ module _ (from to : ℕ) (ticks : List ℤ) (table : Judged) (cs : List ℤ) whe
   by-between (A.Plain start end) b =
       rw (b .0, b .1) (tried-same (entryOf (named from) (named to) K.Nothing [])
       (entryOf (named from) (named to) (heldBy table) cs)
-      (λ tick. between-unseen (named from) (named to) (b .2) (readOf (Ticks tick)) K.Nothing (heldBy table) [] cs) _ 0 ticks)
+      (λ tick. between-unseen (named from) (named to) (b .2) (inRange tick) K.Nothing (heldBy table) [] cs) _ 0 ticks)
   by-between (A.Crossing start end) b = rw (b .0, b .1)
   by-between (A.Refused refusal) b = refl
 
 -- by what is asked
 batch-asked : (from to : ℕ) (ticks : List ℤ) (many : ℕ) (bytes : List ℕ) (asked : Asked)
-    → askedOf P.Batch from to (eqb (length ticks) many) ≡ asked
+    → askedOf P.Batch P.Batch from to (eqb (length ticks) many) true ≡ asked
     → batchAsked asked ticks (judged bytes) (coefficientsIn bytes) ≡ batchOf from to ticks many bytes
 unfolding batchOf
 batch-asked from to ticks many bytes asked e =
-    let a = asks P.Batch from to (eqb (length ticks) many) in
+    let a = asks P.Batch P.Batch from to (eqb (length ticks) many) true in
     rw (← e) (by-between from to ticks (judged bytes) (coefficientsIn bytes)
-    (askedOf P.Batch from to (eqb (length ticks) many)) (a .between) ∙ rw (a .settles (judged bytes)))
+    (askedOf P.Batch P.Batch from to (eqb (length ticks) many) true) (a .between) ∙ rw (a .settles (judged bytes)))
 
 module _ (from to : ℕ) (ticks answers : List ℤ) (bytes : List ℕ) where
   pub has-refused : (refusal : Refusal)
-      → askedOf P.Batch from to (eqb (length ticks) (length answers)) ≡ A.Refused refusal
+      → askedOf P.Batch P.Batch from to (eqb (length ticks) (length answers)) true ≡ A.Refused refusal
       → HasConverted from to ticks answers answers bytes (Refused refusal 0)
   unfolding batchInto
   has-refused refusal e =
@@ -101,14 +100,15 @@ module _ (from to : ℕ) (ticks answers : List ℤ) (bytes : List ℕ) where
       record { answer = is; list = rw (← is) }
 
   pub has-converted : (asked : Asked) {answers' : List ℤ} {r : Batched}
-      → askedOf P.Batch from to (eqb (length ticks) (length answers)) ≡ asked → askedOf P.Reading from to true ≡ asked
+      → askedOf P.Batch P.Batch from to (eqb (length ticks) (length answers)) true ≡ asked
+      → askedOf P.Reading P.Reading from to true true ≡ asked
       → Filled (batchAsked asked ticks (judged bytes) (coefficientsIn bytes))
-      (λ tick. convertAsked asked (readOf (Ticks tick)) (judged bytes) (coefficientsIn bytes)) ticks answers answers' r
+      (λ tick. convertAsked asked (inRange tick) (judged bytes) (coefficientsIn bytes)) ticks answers answers' r
       → HasConverted from to ticks answers answers' bytes r
-  unfolding batchInto
+  unfolding batchInto readOf
   has-converted asked e d filled =
       let is = batch-asked from to ticks (length answers) bytes asked e in
-      let entries = map-same (λ tick. answerTick (convertAsked asked (readOf (Ticks tick)) (judged bytes) (coefficientsIn bytes)))
-      (λ tick. answerTick (convertOf from to (Ticks tick) bytes))
-      (λ tick. ap answerTick (over-bytes from to (Ticks tick) asked (readOf (Ticks tick)) d refl bytes)) ticks in
+      let entries = map-same (λ tick. answerTick (convertAsked asked (inRange tick) (judged bytes) (coefficientsIn bytes)))
+      (λ tick. answerTick (convertOf from to (Ticks tick) [] bytes))
+      (λ tick. ap answerTick (into P.Reading from to (Ticks tick) [] bytes P.Reading true true asked (inRange tick) refl refl refl d refl)) ticks in
       record { answer = filled .is ∙ is; list = filled .list ∙ rw (is, entries) }

@@ -3,7 +3,8 @@
 -- numbers the index is 0. An empty batch still gets checks 1, 8 and the table. An accepted batch
 -- answers the path's steps.'
 use mathlib.Core.Path.{_≡_}
-use mathlib.Core.List.{List, map}
+use mathlib.Core.Bool.{true}
+use mathlib.Core.List.{List, [], map}
 use Prim.Native.Nat.{ℕ}
 use lib.Dec.{eqb}
 use lib.IntN.{ℤ}
@@ -29,14 +30,14 @@ batchSettled (refuses refusal) batched = Refused refusal 0
 -- the whole rule of a batch into a list of so many
 unfoldable pub batchOf : ℕ → ℕ → List ℤ → ℕ → List ℕ → Batched
 batchOf from to ticks many bytes =
-    batchSettled (settled P.Batch from to (eqb (length ticks) many) (judged bytes))
+    batchSettled (settled P.Batch P.Batch from to (eqb (length ticks) many) true (judged bytes))
     (allTried (named from) (named to) ticks (heldBy (judged bytes)) (coefficientsIn bytes))
 
 -- the second list's last content: entry by entry the tick of its conversion
 unfoldable pub batchInto : ℕ → ℕ → List ℤ → List ℤ → List ℕ → List ℤ
 batchInto from to ticks answers bytes =
     batchedLeft (batchOf from to ticks (length answers) bytes)
-    (map (λ tick. answerTick (convertOf from to (Ticks tick) bytes)) ticks) answers
+    (map (λ tick. answerTick (convertOf from to (Ticks tick) [] bytes)) ticks) answers
 
 -- the answer of a batch, and the second list's last content
 pub record HasConverted

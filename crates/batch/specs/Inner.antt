@@ -9,8 +9,7 @@ use Rattle.image.specs.declared.table.Table.{Table}
 use Rattle.image.specs.Image.{coefficientsStored}
 use Rattle.blocks.specs.declared.answer.Judged.{Judged}
 use Rattle.blocks.specs.Judging.{judged}
-use Rattle.dates.specs.declared.reading.Reading.the-variants.{Ticks}
-use Rattle.dates.specs.Readings.{readOf}
+use Rattle.dates.specs.Readings.{inRange}
 use Rattle.entries.specs.declared.batched.Batched.{Batched}
 use Rattle.entries.specs.declared.batched.Batched.the-variants as Batched
 use Rattle.walk.specs.declared.kept.Kept.the-variants as K
@@ -49,4 +48,4 @@ batchAsked (A.Refused refusal) ticks table coefficients = Batched.Refused refusa
 abbrev pub FilledCrossing : Scale → Scale → List ℤ → List ℤ → List ℤ → List ℕ → Batched → Type 0
 FilledCrossing from to ticks answers answers' bytes r =
     Filled (batchCrossed from to ticks (judged bytes) (coefficientsIn bytes))
-    (λ tick. overBytes from to (readOf (Ticks tick)) bytes) ticks answers answers' r
+    (λ tick. overBytes from to (inRange tick) bytes) ticks answers answers' r

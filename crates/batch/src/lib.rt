@@ -67,7 +67,8 @@ pub fn batch(from: u32, to: u32, ticks: &[i64], answers: &mut [i64], table: &[u8
     ensures { λ r. ⌜ HasConverted from to (now (ticks .entry)) (now (answers .entry))
         (now (answers .exit)) (now (table .entry)) r ⌝ }
 {
-    match asked_of(Purpose::Batch, from, to, ticks.len() == answers.len()) {
+    let fits = ticks.len() == answers.len();
+    match asked_of(Purpose::Batch, Purpose::Batch, from, to, fits, true) {
         Asked::Plain(start, end) => batch_over(start, end, ticks, answers, Kept::Nothing, &[]),
         Asked::Crossing(start, end) => batch_crossing(start, end, ticks, answers, table),
         Asked::Refused(refusal) => Batched::Refused(refusal, 0),

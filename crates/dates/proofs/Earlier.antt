@@ -17,14 +17,13 @@ use Rattle.numbers.proofs.Ring.{*-left-comm}
 use Rattle.numbers.proofs.Order.{*-mono, le-pos}
 use Rattle.numbers.proofs.Rounding.{nearest-order, nearest-reduced}
 use Rattle.scales.specs.Tick.{isValid}
-use Rattle.dates.specs.declared.reading.Read.{Read}
-use Rattle.dates.specs.declared.reading.Read.the-variants as R
-use Rattle.dates.specs.declared.reading.Reading.the-variants.{SinceJ2000}
+use Rattle.scales.specs.declared.answer.Read.{Read}
+use Rattle.scales.specs.declared.answer.Read.the-variants as R
 use Rattle.numbers.specs.Signs.{signed}
 use Rattle.dates.specs.Doubles.{numerator, denominator, beyond}
 use Rattle.dates.specs.Ticks.{ticksRounded, secondTicks, j2000, tickOfSeconds}
-use Rattle.dates.specs.Readings.{inRange, readOf, refusedIf, mostSeconds}
-use Rattle.dates.specs.Answers.{Accepts, readNumber, readTick}
+use Rattle.dates.specs.Readings.{inRange, refusedIf, mostSeconds, readOfSeconds}
+use Rattle.scales.specs.Answers.{Accepts, readNumber, readTick}
 use Rattle.dates.proofs.Values.{den-pos, signed-times}
 
 -- ---- the order of two doubles is that of their exact values
@@ -84,8 +83,8 @@ unfolding tickOfSeconds
 ticks-in-order x y h = moved (ticksRounded secondTicks x) (ticksRounded secondTicks y) j2000 (nearest-keeps secondTicks x y h)
 
 -- ---- an accepted reading of seconds is finite, and its tick is the rule's
-accepted : (x : Float) (tick : ℤ) → Accepts (readOf (SinceJ2000 x)) tick → (T (finite x)) × (tickOfSeconds x ≡ tick)
-unfolding readOf inRange readNumber readTick
+accepted : (x : Float) (tick : ℤ) → Accepts (readOfSeconds x) tick → (T (finite x)) × (tickOfSeconds x ≡ tick)
+unfolding readOfSeconds inRange readNumber readTick
 accepted x tick h = go (finite x) (beyond mostSeconds x) (isValid (tickOfSeconds x)) (h .0) (h .1)
   where
     answer : (f b v : Bool) → Read
@@ -98,8 +97,8 @@ accepted x tick h = go (finite x) (beyond mostSeconds x) (isValid (tickOfSeconds
     go true true v n t = let no : ⊥ = omega arith in absurd no
     go false b v n t = let no : ⊥ = omega arith in absurd no
 
-pub earlier-seconds : (x y : Float) (a b : ℤ) → le x y ≡ true → Accepts (readOf (SinceJ2000 x)) a
-    → Accepts (readOf (SinceJ2000 y)) b → a ≤ℤ b
+pub earlier-seconds : (x y : Float) (a b : ℤ) → le x y ≡ true → Accepts (readOfSeconds x) a
+    → Accepts (readOfSeconds y) b → a ≤ℤ b
 earlier-seconds x y a b h p q =
     let f = accepted x a p in
     let g = accepted y b q in

@@ -8,12 +8,12 @@ use lib.Ieee.{Float, nan, inf, fin, ofInt, div}
 use lib.Ieee.Scale.{finite}
 use Rattle.numbers.specs.Rounding.{nearest, floorDiv}
 use Rattle.scales.specs.Tick.{isValid}
-use Rattle.dates.specs.declared.reading.Reading.the-variants.{TwoPart, SinceJ2000}
 use Rattle.dates.specs.Doubles.{numerator, denominator, beyond}
 use Rattle.dates.specs.Ticks.{ticksRounded, tickOfDate, tickOfSeconds}
-use Rattle.dates.specs.Readings.{inRange, readOf}
+use Rattle.dates.specs.Readings.{inRange, readOfParts, readOfSeconds}
 use Rattle.dates.specs.Written.{sinceHalf, dayOf, firstPart, dateOf, writtenOf}
-use Rattle.dates.specs.Answers.{Accepts, Refuses, readNumber, readPlace, readTick, writtenFirst, writtenNumber, writtenPlace}
+use Rattle.scales.specs.Answers.{Accepts, Refuses, readNumber, readPlace, readTick}
+use Rattle.dates.specs.Answers.{writtenFirst, writtenNumber, writtenPlace}
 
 -- 2443144.5, 2443143.5, 5000000.0 and -2556855.5
 abbrev d2443144-5 : Float
@@ -30,13 +30,13 @@ minus2556855-5 = fin true 5113711 (negsuc 0)
 
 pub record KnownDates : Type 0 where
   -- '(5000000, -2556855.5) equals P12'
-  pub split : Accepts (readOf (TwoPart d5000000 minus2556855-5)) (negℤ (pos 32184000000))
+  pub split : Accepts (readOfParts d5000000 minus2556855-5) (negℤ (pos 32184000000))
   -- 'NaN in either part is 2', with its place
-  pub nanFirst : (second : Float) → Refuses (readOf (TwoPart nan second)) 2 0
-  pub nanSecond : (first : Float) → finite first ≡ true → Refuses (readOf (TwoPart first nan)) 2 1
+  pub nanFirst : (second : Float) → Refuses (readOfParts nan second) 2 0
+  pub nanSecond : (first : Float) → finite first ≡ true → Refuses (readOfParts first nan) 2 1
 
 pub known-dates : KnownDates
-unfolding readOf inRange isValid tickOfDate ticksRounded nearest floorDiv numerator denominator beyond readNumber readPlace readTick
+unfolding readOfParts readOfSeconds inRange isValid tickOfDate ticksRounded nearest floorDiv numerator denominator beyond readNumber readPlace readTick
 known-dates = record { split = (refl, refl); nanFirst = λ second. (refl, refl); nanSecond = λ first h. rw h (refl, refl) }
 
 -- ---- the edges of the rules. The double after 5000000.0 is 2^-30 more, the one after 10^10 is
@@ -52,21 +52,21 @@ pastTenToTheTen = fin false 5242880000000001 (negsuc 18)
 
 pub record Edges : Type 0 where
   -- 'beyond' is strict: 5,000,000 days pass, above, and the next double is 3, in either part
-  pub daysFirst : Refuses (readOf (TwoPart past5000000 minus2556855-5)) 3 0
-  pub daysSecond : Refuses (readOf (TwoPart minus2556855-5 past5000000)) 3 1
+  pub daysFirst : Refuses (readOfParts past5000000 minus2556855-5) 3 0
+  pub daysSecond : Refuses (readOfParts minus2556855-5 past5000000) 3 1
   -- 10^10 s pass 3, and 10^19 ticks do not fit 64 bits: 4. The next double is 3
-  pub seconds : Refuses (readOf (SinceJ2000 tenToTheTen)) 4 0
-  pub secondsPast : Refuses (readOf (SinceJ2000 pastTenToTheTen)) 3 0
+  pub seconds : Refuses (readOfSeconds tenToTheTen) 4 0
+  pub secondsPast : Refuses (readOfSeconds pastTenToTheTen) 3 0
   -- '2 over both parts' comes first
-  pub nanPast : Refuses (readOf (TwoPart past5000000 nan)) 2 1
-  pub infinite : (negative : Bool) → Refuses (readOf (SinceJ2000 (inf negative))) 2 0
+  pub nanPast : Refuses (readOfParts past5000000 nan) 2 1
+  pub infinite : (negative : Bool) → Refuses (readOfSeconds (inf negative)) 2 0
   -- -0.0 is zero
-  pub minusZero : Accepts (readOf (SinceJ2000 (fin true 0 (pos 0)))) (pos 725803167816000000)
+  pub minusZero : Accepts (readOfSeconds (fin true 0 (pos 0))) (pos 725803167816000000)
   -- 2^-10 s are 976562.5 ticks: 'halves to the greater', before J2000 too
-  pub halfAfter : Accepts (readOf (SinceJ2000 (fin false 1 (negsuc 9)))) (pos 725803167816976563)
-  pub halfBefore : Accepts (readOf (SinceJ2000 (fin true 1 (negsuc 9)))) (pos 725803167815023438)
+  pub halfAfter : Accepts (readOfSeconds (fin false 1 (negsuc 9))) (pos 725803167816976563)
+  pub halfBefore : Accepts (readOfSeconds (fin true 1 (negsuc 9))) (pos 725803167815023438)
   -- the smallest double is nothing
-  pub smallest : Accepts (readOf (SinceJ2000 (fin true 1 (negsuc 1073)))) (pos 725803167816000000)
+  pub smallest : Accepts (readOfSeconds (fin true 1 (negsuc 1073))) (pos 725803167816000000)
   -- the midnight before the origin is a date's first part, and a tick earlier the midnight before:
   -- the day is rounded down
   pub midnight : writtenFirst (writtenOf (negℤ (pos 32184000000))) ≡ d2443144-5
@@ -76,7 +76,8 @@ pub record Edges : Type 0 where
       × (writtenPlace (writtenOf (pos 6000000000000000001)) ≡ 0)
 
 pub edges : Edges
-unfolding readOf inRange isValid tickOfDate tickOfSeconds ticksRounded nearest floorDiv numerator denominator beyond readNumber readPlace readTick
+unfolding readOfParts readOfSeconds inRange isValid tickOfDate tickOfSeconds ticksRounded nearest floorDiv numerator denominator beyond readNumber
+    readPlace readTick
     writtenOf dateOf firstPart dayOf sinceHalf ofInt div writtenFirst writtenNumber writtenPlace
 edges = record {
   daysFirst = (refl, refl);

@@ -21,13 +21,13 @@ use Rattle.numbers.proofs.Order.{le-pos, lt-pos}
 use Rattle.numbers.proofs.Rounding.{Floored, floored}
 use Rattle.scales.specs.Tick.{isValid}
 use Rattle.scales.proofs.Range.{valid-size}
-use Rattle.dates.specs.declared.reading.Read.the-variants as R
-use Rattle.dates.specs.declared.reading.Reading.the-variants.{TwoPart}
+use Rattle.scales.specs.declared.answer.Read.the-variants as R
 use Rattle.dates.specs.Doubles.{numerator, denominator, beyond}
 use Rattle.dates.specs.Ticks.{dayTicks, origin, ticksRounded, tickOfDate}
-use Rattle.dates.specs.Readings.{inRange, readOf, readOfDate, mostDays}
+use Rattle.dates.specs.Readings.{inRange, readOfDate, mostDays, readOfParts}
 use Rattle.dates.specs.Written.{sinceHalf, dayOf, sinceDay, firstPart, secondPart, dateOf, writtenOf}
-use Rattle.dates.specs.Answers.{Accepts, readNumber, readTick, writtenNumber, writtenFirst, writtenSecond}
+use Rattle.scales.specs.Answers.{Accepts, readNumber, readTick}
+use Rattle.dates.specs.Answers.{writtenNumber, writtenFirst, writtenSecond}
 use Rattle.dates.specs.Inner.{Since}
 use Rattle.dates.proofs.Days.{days-counted, days-few, first-half-is, ticks-of-day-is}
 use Rattle.dates.proofs.Division.{part-under, part-value, part-ticks, half-value}
@@ -145,7 +145,7 @@ module _ (tick : ℤ) (v : isValid tick ≡ true) where
       (le-trans (le-of-lt (part-under r r-small)) (lit≤ tt))
 
   back : readOfDate (dateOf tick) ≡ R.Tick tick
-  unfolding readOf inRange dateOf
+  unfolding readOfParts inRange dateOf
   back = rw (first-finite, second-finite, first-within, second-within, sum, v)
 
   -- 'the first part is .. exact': its value is the day's n + 1/2
@@ -173,6 +173,6 @@ last-day tick = floored (sinceHalf tick) dayTicks (lit< tt)
 -- that tick
 pub read-back : (tick : ℤ) → isValid tick ≡ true
     → (writtenNumber (writtenOf tick) ≡ 0)
-    × Accepts (readOf (TwoPart (writtenFirst (writtenOf tick)) (writtenSecond (writtenOf tick)))) tick
+    × Accepts (readOfParts (writtenFirst (writtenOf tick)) (writtenSecond (writtenOf tick))) tick
 unfolding writtenOf writtenNumber writtenFirst writtenSecond dateOf readNumber readTick
 read-back tick v = rw v (refl, rw (back tick v) (refl, refl))

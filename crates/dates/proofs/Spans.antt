@@ -12,7 +12,7 @@ use Rattle.numbers.proofs.Differences.{rep, rep₂, rep₄, lin, sizes}
 use Rattle.numbers.proofs.Order.{size-+}
 use Rattle.scales.specs.Tick.{furthest, isValid}
 use Rattle.scales.proofs.Range.{valid-size}
-use Rattle.dates.specs.declared.reading.Read.the-variants as R
+use Rattle.scales.specs.declared.answer.Read.the-variants as R
 use Rattle.dates.specs.declared.span.Span.{Span}
 use Rattle.dates.specs.Ticks.{dayTicks, j2000, ticksRounded, origin, secondTicks, tickOfDate, tickOfSeconds}
 use Rattle.dates.specs.Readings.{inRange, refusedWith, refusedIf}

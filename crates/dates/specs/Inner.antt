@@ -1,12 +1,16 @@
 -- What the inner functions ask and give.
 use mathlib.Core.Path.{_≡_}
 use mathlib.Core.Logic.{_⊎_}
-use mathlib.Core.Bool.{Bool, not, _&&_}
+use mathlib.Core.Bool.{Bool, true, not, _&&_}
+use mathlib.Core.List.{List}
 use Prim.Native.Nat.{ℕ, _+_, _*_, _^_, _<_, _≤_}
 use lib.Dec.{T}
 use lib.IntN.{ℤ, pos, natAbs, _+ℤ_, _*ℤ_}
 use lib.Ieee.{Float}
 use lib.Ieee.Scale.{finite}
+use Rattle.scales.specs.declared.scale.Purpose.{Purpose}
+use Rattle.scales.specs.declared.scale.Purpose.the-variants.{Utc}
+use Rattle.utc.specs.Leaps.{isListRight}
 use Rattle.dates.specs.declared.span.Span.{Span}
 use Rattle.dates.specs.Doubles.{beyond, denominator, numerator}
 use Rattle.dates.specs.Ticks.{dayTicks, ticksRounded}
@@ -75,3 +79,7 @@ pub record Reach (per most : ℤ) : Type 0 where
 pub record Since (tick : ℤ) (since : ℕ) : Type 0 where
   pub is : pos since ≡ tick +ℤ pos (70000 * dayTicks + 32184000000)
   pub few : since ≤ 12048000032184000000
+
+-- ---- a list that is right where it is looked at: for UTC
+pub record Listed (purpose : Purpose) (leaps : List ℤ) : Type 0 where
+  pub right : purpose ≡ Utc → isListRight leaps ≡ true

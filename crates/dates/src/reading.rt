@@ -7,32 +7,30 @@ use crate::span::Span;
 use crate::span::plus;
 use crate::ticks::ticks_of_days;
 use crate::ticks::ticks_of_seconds;
+use scales::answer::Read;
 use scales::refusal::Refusal;
+use scales::scale::Purpose;
 use scales::tick::valid;
+use utc::reading::read;
 ghost use mathlib.Core.Path.{_≡_};
 ghost use mathlib.Core.Bool.{false, _&&_};
-ghost use Rattle.dates.specs.declared.reading.Reading.the-variants as R;
-ghost use Rattle.dates.specs.Readings.{inRange, mostDays, readOf, readOfDate, refusedWith};
-ghost use Rattle.dates.specs.Inner.{Reach, SpanWithin, modest, passing, worth};
+ghost use Rattle.dates.specs.Readings.{inRange, mostDays, readOf, readOfDate, readOfParts};
+ghost use Rattle.dates.specs.Readings.{readOfSeconds, purposeOf, refusedWith};
+ghost use Rattle.dates.specs.Inner.{Listed, Reach, SpanWithin, modest, passing, worth};
 
 // 'A reading is a two-part Julian date in days, two doubles; or seconds past J2000, one double; or
-// ticks.'
+// ticks.' 'A UTC reading is a Modified Julian Day and ticks within the day.'
 pub enum Reading {
     TwoPart(f64, f64),
     SinceJ2000(f64),
     Ticks(i64),
+    Utc(i64, i64),
 }
 
 // 'a two-part Julian date in days, two doubles'
 pub struct Date {
     pub first: f64,
     pub second: f64,
-}
-
-// What a reading says: a valid tick, or a refusal, which 'carries no tick'.
-pub enum Read {
-    Tick(i64),
-    Refused(Refusal),
 }
 
 // The place told of a date part: 'part, 0 or 1'.
@@ -77,7 +75,7 @@ fn placed(span: Span, per: i64, most: i64) -> Read
 // first part first in each)'.
 fn no_date(first: f64, second: f64) -> Read
     requires { ⌜ (passing mostDays first && passing mostDays second) ≡ false ⌝ }
-    ensures { λ r. ⌜ r ≡ readOf (R.TwoPart first second) ⌝ }
+    ensures { λ r. ⌜ r ≡ readOfParts first second ⌝ }
 {
     if !is_finite(first) {
         return refused(2, FIRST);
@@ -94,7 +92,7 @@ fn no_date(first: f64, second: f64) -> Read
 // Both parts, each to its nearest tick, less Julian date 2443144.5003725, which is 2,443,144 days
 // and 43,232.184 s.
 fn two_part(first: f64, second: f64) -> Read
-    ensures { λ r. ⌜ r ≡ readOf (R.TwoPart first second) ⌝ }
+    ensures { λ r. ⌜ r ≡ readOfParts first second ⌝ }
 {
     if !both_pass(first, second) {
         return no_date(first, second);
@@ -109,7 +107,7 @@ fn two_part(first: f64, second: f64) -> Read
 
 // Seconds past J2000, which is 725,803,167.816 s past Julian date 2443144.5003725.
 fn since_j2000(seconds: f64) -> Read
-    ensures { λ r. ⌜ r ≡ readOf (R.SinceJ2000 seconds) ⌝ }
+    ensures { λ r. ⌜ r ≡ readOfSeconds seconds ⌝ }
 {
     if !is_finite(seconds) {
         return refused(2, 0);
@@ -128,14 +126,29 @@ fn since_j2000(seconds: f64) -> Read
     )
 }
 
-// The tick of a reading, past Julian date 2443144.5003725, or refusal 2, 3 or 4, in that order.
-pub fn tick_of(reading: Reading) -> Read
-    ensures { λ r. ⌜ r ≡ readOf reading ⌝ }
+// What the first code is read for.
+pub fn purpose_of(reading: Reading) -> Purpose
+    ensures { λ r. ⌜ r ≡ purposeOf reading ⌝ }
+{
+    match reading {
+        Reading::TwoPart(_, _) => Purpose::Reading,
+        Reading::SinceJ2000(_) => Purpose::Reading,
+        Reading::Ticks(_) => Purpose::Reading,
+        Reading::Utc(_, _) => Purpose::Utc,
+    }
+}
+
+// The tick of a reading, past Julian date 2443144.5003725, or refusal 2, 3, 5 or 4, in that order.
+// Where it is a UTC reading, the list has been judged by refusal 7.
+pub fn tick_of(reading: Reading, leaps: &[i64]) -> Read
+    requires { ⌜ Listed (purposeOf reading) (now leaps) ⌝ }
+    ensures { λ r. ⌜ r ≡ readOf (now (leaps .entry)) reading ⌝ }
 {
     match reading {
         Reading::TwoPart(first, second) => two_part(first, second),
         Reading::SinceJ2000(seconds) => since_j2000(seconds),
         Reading::Ticks(tick) => ranged(tick),
+        Reading::Utc(day, ticks) => read(leaps, day, ticks),
     }
 }
 

@@ -1,36 +1,36 @@
 -- The order of refusals in the code's steps: what is asked is what is settled before the table is
 -- looked at; a conversion by what is asked and what was read is the rule's. Assumes nothing.
 use mathlib.Core.Path.{_≡_, refl, sym, _∙_, ap}
-use mathlib.Core.Bool.{Bool, true, false, cond}
+use mathlib.Core.Bool.{Bool, true, false, cond, _&&_}
 use mathlib.Core.List.{List, [], _∷_, _++_}
 use Prim.Native.Nat.{ℕ}
 use native.Mathlib.Omega.{arith}
 use lib.IntN.{ℤ}
+use Rattle.numbers.proofs.Flags.{never}
 use Rattle.scales.specs.declared.answer.Answer.{Answer}
 use Rattle.scales.specs.declared.refusal.Refusal.{Refusal}
 use Rattle.scales.specs.declared.scale.Named.the-variants as N
 use Rattle.scales.specs.declared.scale.Purpose.{Purpose}
-use Rattle.scales.specs.declared.scale.Purpose.the-variants as P
 use Rattle.scales.specs.declared.scale.Scale.{Scale}
 use Rattle.scales.specs.Path.{path, crosses}
 use Rattle.scales.specs.Scales.{isCode, named, scaleOf}
 use Rattle.blocks.specs.declared.answer.Judged.{Judged}
 use Rattle.blocks.specs.Judging.{judged}
-use Rattle.dates.specs.declared.reading.Read.{Read}
-use Rattle.dates.specs.declared.reading.Read.the-variants as R
 use Rattle.dates.specs.declared.reading.Reading.{Reading}
-use Rattle.dates.specs.Readings.{readOf}
+use Rattle.dates.specs.Readings.{inRange, readOf, purposeOf}
+use Rattle.scales.specs.declared.answer.Read.{Read}
+use Rattle.scales.specs.declared.answer.Read.the-variants as R
 use Rattle.walk.specs.declared.kept.Kept.{Kept}
 use Rattle.walk.specs.declared.kept.Kept.the-variants as K
 use Rattle.walk.proofs.Unseen.{walk-unseen}
 use Rattle.desk.specs.declared.asked.Asked.{Asked}
 use Rattle.desk.specs.declared.asked.Asked.the-variants as A
 use Rattle.desk.specs.Order.{Check, passes, refuses, unless, firstOf, beforeTable, ofTable}
-use Rattle.desk.specs.Order.{ifCrossed, settled}
+use Rattle.desk.specs.Order.{ifCrossed, settled, leapsFit, leapsRight}
 use Rattle.desk.specs.Conversion.{answering, started, betweenOf, heldBy}
+use Rattle.desk.specs.Conversion.{convertRead, convertJudged, convertInto}
 use Rattle.opened.specs.Opened.{coefficientsIn}
-use Rattle.desk.specs.Conversion.{convertJudged, convertOf}
-use Rattle.desk.specs.Inner.{askedBy, askedOf, convertAsked}
+use Rattle.desk.specs.Inner.{askedBy, askedOf, lentChecks, convertAsked}
 
 -- ---- a code and its scale
 module _ (purpose : Purpose) (code place : ℕ) where
@@ -58,30 +58,29 @@ only : (check : Check) → check ≡ firstOf (check ∷ [])
 only passes = refl
 only (refuses refusal) = refl
 
-module _ (purpose : Purpose) (from to : ℕ) (fits : Bool) where
-  pub from-refused : (refusal : Refusal) → scaleOf purpose from 0 ≡ N.Refused refusal
-      → A.Refused refusal ≡ askedOf purpose from to fits
+module _ (reads writes : Purpose) (from to : ℕ) (fits right : Bool) where
+  pub from-refused : (refusal : Refusal) → scaleOf reads from 0 ≡ N.Refused refusal
+      → A.Refused refusal ≡ askedOf reads writes from to fits right
   unfolding askedOf
   from-refused refusal e =
-      let c = code-refused purpose from 0 refusal e in
+      let c = code-refused reads from 0 refusal e in
       rw (c .0) (ap A.Refused (c .1))
 
-  module _ (start : Scale) (begins : scaleOf purpose from 0 ≡ N.Scale start) where
-    pub to-refused : (refusal : Refusal) → scaleOf purpose to 1 ≡ N.Refused refusal
-        → A.Refused refusal ≡ askedOf purpose from to fits
+  module _ (start : Scale) (begins : scaleOf reads from 0 ≡ N.Scale start) where
+    pub to-refused : (refusal : Refusal) → scaleOf writes to 1 ≡ N.Refused refusal
+        → A.Refused refusal ≡ askedOf reads writes from to fits right
     unfolding askedOf
     to-refused refusal e =
-        let c = code-refused purpose to 1 refusal e in
-        rw (code-named purpose from 0 start begins .0, c .0) (ap A.Refused (c .1))
+        let c = code-refused writes to 1 refusal e in
+        rw (code-named reads from 0 start begins .0, c .0) (ap A.Refused (c .1))
 
-    pub both-named : (end : Scale) → scaleOf purpose to 1 ≡ N.Scale end
-        → askedBy (unless fits 8 0) start end ≡ askedOf purpose from to fits
+    pub both-named : (end : Scale) → scaleOf writes to 1 ≡ N.Scale end
+        → askedBy (lentChecks fits right) start end ≡ askedOf reads writes from to fits right
     unfolding askedOf
     both-named end e =
-        let f = code-named purpose from 0 start begins in
-        let t = code-named purpose to 1 end e in
+        let f = code-named reads from 0 start begins in
+        let t = code-named writes to 1 end e in
         rw (f .0, t .0, f .1, t .1)
-        (ap (λ (check : Check). askedBy check (named from) (named to)) (only (unless fits 8 0)))
 
 -- ---- what is settled is what is asked, and then the table
 abbrev pub settledBy : Asked → Judged → Check
@@ -95,8 +94,8 @@ Between from to (A.Plain start end) = (start ≡ from) × (end ≡ to) × (cross
 Between from to (A.Crossing start end) = (start ≡ from) × (end ≡ to)
 Between from to (A.Refused refusal) = Unit {0}
 
-pub record Asks (purpose : Purpose) (from to : ℕ) (fits : Bool) (asked : Asked) : Type 0 where
-  pub settles : (table : Judged) → settled purpose from to fits table ≡ settledBy asked table
+pub record Asks (reads writes : Purpose) (from to : ℕ) (fits right : Bool) (asked : Asked) : Type 0 where
+  pub settles : (table : Judged) → settled reads writes from to fits right table ≡ settledBy asked table
   pub between : Between (named from) (named to) asked
 
 -- the first of two lists that refuses
@@ -109,19 +108,20 @@ first-of-both [] more = refl
 first-of-both (passes ∷ rest) more = first-of-both rest more
 first-of-both (refuses refusal ∷ rest) more = refl
 
-pub asks : (purpose : Purpose) (from to : ℕ) (fits : Bool)
-    → Asks purpose from to fits (askedOf purpose from to fits)
+pub asks : (reads writes : Purpose) (from to : ℕ) (fits right : Bool)
+    → Asks reads writes from to fits right (askedOf reads writes from to fits right)
 unfolding askedOf settled
-asks purpose from to fits =
-    by (firstOf (beforeTable purpose from to fits)) refl (crosses (named from) (named to)) refl
+asks reads writes from to fits right =
+    by (firstOf (beforeTable reads writes from to fits right)) refl (crosses (named from) (named to)) refl
   where
-    parts : (table : Judged) → settled purpose from to fits table
-        ≡ after (firstOf (beforeTable purpose from to fits)) (firstOf (ifCrossed from to (ofTable table) ∷ []))
-    parts table = first-of-both (beforeTable purpose from to fits) (ifCrossed from to (ofTable table) ∷ [])
+    parts : (table : Judged) → settled reads writes from to fits right table
+        ≡ after (firstOf (beforeTable reads writes from to fits right))
+        (firstOf (ifCrossed from to (ofTable table) ∷ []))
+    parts table = first-of-both (beforeTable reads writes from to fits right) (ifCrossed from to (ofTable table) ∷ [])
 
-    by : (check : Check) → firstOf (beforeTable purpose from to fits) ≡ check → (over : Bool)
+    by : (check : Check) → firstOf (beforeTable reads writes from to fits right) ≡ check → (over : Bool)
         → crosses (named from) (named to) ≡ over
-        → Asks purpose from to fits (askedBy check (named from) (named to))
+        → Asks reads writes from to fits right (askedBy check (named from) (named to))
     by passes e true o = rw o (record {
       settles = λ table. parts table ∙ rw (e, o) (sym (only (ofTable table)));
       between = (refl, refl);
@@ -129,35 +129,51 @@ asks purpose from to fits =
     by passes e false o = rw o (record { settles = λ table. parts table ∙ rw (e, o); between = (refl, refl, o) })
     by (refuses refusal) e over o = record { settles = λ table. parts table ∙ rw e; between = tt }
 
--- lengths that do not fit are a refusal, 8 if no other
-unfit : (purpose : Purpose) (from to : ℕ) → (refusal : Refusal) × (askedOf purpose from to false ≡ A.Refused refusal)
+-- lent lists that do not fit, or are not right, are a refusal, 8 or 7 if no other
+unlent : (reads writes : Purpose) (from to : ℕ) (fits right : Bool) → (fits && right) ≡ false
+    → (refusal : Refusal) × (askedOf reads writes from to fits right ≡ A.Refused refusal)
 unfolding askedOf
-unfit purpose from to = by (isCode purpose from) (isCode purpose to)
+unlent reads writes from to fits right e = by (isCode reads from) (isCode writes to) fits right e
   where
-    by : (p q : Bool) → (refusal : Refusal)
-        × (askedBy (firstOf (unless p 1 0 ∷ unless q 1 1 ∷ unless false 8 0 ∷ [])) (named from) (named to)
+    by : (p q f r : Bool) → (f && r) ≡ false → (refusal : Refusal)
+        × (askedBy (firstOf (unless p 1 0 ∷ unless q 1 1 ∷ unless f 8 0 ∷ unless r 7 0 ∷ [])) (named from) (named to)
         ≡ A.Refused refusal)
-    by true true = (record { number = 8; place = 0 }, refl)
-    by true false = (record { number = 1; place = 1 }, refl)
-    by false q = (record { number = 1; place = 0 }, refl)
+    by true true false r e = (record { number = 8; place = 0 }, refl)
+    by true true true false e = (record { number = 7; place = 0 }, refl)
+    by true true true true e = never (sym e)
+    by true false f r e = (record { number = 1; place = 1 }, refl)
+    by false q f r e = (record { number = 1; place = 0 }, refl)
 
--- so that they fit where what is asked is no refusal, and where all is settled
-pub asked-fits : (purpose : Purpose) (from to : ℕ) (fits : Bool) (asked : Asked) → askedOf purpose from to fits ≡ asked
-    → ((refusal : Refusal) → asked ≡ A.Refused refusal → ⊥) → fits ≡ true
-asked-fits purpose from to true asked e sound = refl
-asked-fits purpose from to false asked e sound =
-    let u = unfit purpose from to in
-    absurd (sound (u .0) (sym e ∙ u .1))
+-- a path is no refusal
+pub plain-sound : (start end : Scale) (refusal : Refusal) → A.Plain start end ≡ A.Refused refusal → ⊥
+plain-sound start end refusal e = let z : _≡_ {A = ℕ} 0 2 = cc in omega arith
 
-pub settled-fits : (purpose : Purpose) (from to : ℕ) (fits : Bool) (table : Judged)
-    → settled purpose from to fits table ≡ passes → fits ≡ true
-settled-fits purpose from to true table e = refl
-settled-fits purpose from to false table e =
-    let u = unfit purpose from to in
-    let no : passes ≡ refuses (u .0) = sym e ∙ asks purpose from to false .settles table ∙ ap (λ (a : Asked). settledBy a table) (u .1) in
-    let z : _≡_ {A = ℕ} 0 1 = cc in
-    let never : ⊥ = omega arith in
-    absurd never
+pub crossing-sound : (start end : Scale) (refusal : Refusal) → A.Crossing start end ≡ A.Refused refusal → ⊥
+crossing-sound start end refusal e = let z : _≡_ {A = ℕ} 0 2 = cc in omega arith
+
+-- so that they fit and are right where what is asked is no refusal, and where all is settled
+pub asked-lent : (reads writes : Purpose) (from to : ℕ) (fits right : Bool) (asked : Asked)
+    → askedOf reads writes from to fits right ≡ asked
+    → ((refusal : Refusal) → asked ≡ A.Refused refusal → ⊥) → (fits && right) ≡ true
+asked-lent reads writes from to fits right asked e sound = by (fits && right) refl
+  where
+    by : (lent : Bool) → (fits && right) ≡ lent → lent ≡ true
+    by true l = refl
+    by false l = let u = unlent reads writes from to fits right l in absurd (sound (u .0) (sym e ∙ u .1))
+
+pub settled-lent : (reads writes : Purpose) (from to : ℕ) (fits right : Bool) (table : Judged)
+    → settled reads writes from to fits right table ≡ passes → (fits && right) ≡ true
+settled-lent reads writes from to fits right table e = by (fits && right) refl
+  where
+    by : (lent : Bool) → (fits && right) ≡ lent → lent ≡ true
+    by true l = refl
+    by false l =
+        let u = unlent reads writes from to fits right l in
+        let no : passes ≡ refuses (u .0) =
+        sym e ∙ asks reads writes from to fits right .settles table ∙ ap (λ (a : Asked). settledBy a table) (u .1) in
+        let z : _≡_ {A = ℕ} 0 1 = cc in
+        let impossible : ⊥ = omega arith in
+        absurd impossible
 
 -- ---- 'A path that doesn't cross never looks at the table'
 module _ (start end : Scale) where
@@ -173,7 +189,7 @@ module _ (start end : Scale) where
       started-same _ _ (λ tick. walk-unseen kept kept' cs cs' (path start end) e 0 (record { scale = start; tick = tick })) read
 
 -- ---- a conversion by what is asked
-module _ (purpose : Purpose) (from to : ℕ) (reading : Reading) (table : Judged) (cs : List ℤ) where
+module _ (from to : ℕ) (table : Judged) (cs : List ℤ) where
   by-between : (asked : Asked) → Between (named from) (named to) asked → (read : Read)
       → convertAsked asked read table cs
       ≡ answering (settledBy asked table) (betweenOf (named from) (named to) read (heldBy table) cs)
@@ -182,16 +198,26 @@ module _ (purpose : Purpose) (from to : ℕ) (reading : Reading) (table : Judged
   by-between (A.Crossing start end) b read = rw (b .0, b .1)
   by-between (A.Refused refusal) b read = refl
 
-  pub by-asked : (asked : Asked) (read : Read) → askedOf purpose from to true ≡ asked → readOf reading ≡ read
-      → convertAsked asked read table cs ≡ convertJudged purpose from to reading table cs
-  unfolding convertJudged
-  by-asked asked read is was =
-      let a = asks purpose from to true in
-      rw (← is, ← was) (by-between (askedOf purpose from to true) (a .between) (readOf reading) ∙ rw (a .settles table))
+  pub by-asked : (reads writes : Purpose) (fits right : Bool) (asked : Asked) (read : Read)
+      → askedOf reads writes from to fits right ≡ asked
+      → convertAsked asked read table cs ≡ convertRead reads writes from to fits right read table cs
+  unfolding convertRead
+  by-asked reads writes fits right asked read is =
+      let a = asks reads writes from to fits right in
+      rw (← is) (by-between (askedOf reads writes from to fits right) (a .between) read ∙ rw (a .settles table))
 
-pub over-bytes : (from to : ℕ) (reading : Reading) (asked : Asked) (read : Read)
-    → askedOf P.Reading from to true ≡ asked → readOf reading ≡ read → (bytes : List ℕ)
-    → convertAsked asked read (judged bytes) (coefficientsIn bytes) ≡ convertOf from to reading bytes
-unfolding convertOf
-over-bytes from to reading asked read is was bytes =
-    by-asked P.Reading from to reading (judged bytes) (coefficientsIn bytes) asked read is was
+pub of-tick : (purpose : Purpose) (from to : ℕ) (tick : ℤ) (table : Judged) (cs : List ℤ) (asked : Asked) (read : Read)
+    → askedOf purpose purpose from to true true ≡ asked → read ≡ inRange tick
+    → convertAsked asked read table cs ≡ convertJudged purpose from to tick table cs
+of-tick purpose from to tick table cs asked read is was =
+    rw (← was) (by-asked from to table cs purpose purpose true true asked read is)
+
+pub into : (writes : Purpose) (from to : ℕ) (reading : Reading) (leaps : List ℤ) (bytes : List ℕ) (reads : Purpose)
+    (fits right : Bool) (asked : Asked) (read : Read) → reads ≡ purposeOf reading → fits ≡ leapsFit reads writes leaps
+    → right ≡ leapsRight reads writes leaps → askedOf reads writes from to fits right ≡ asked
+    → read ≡ readOf leaps reading
+    → convertAsked asked read (judged bytes) (coefficientsIn bytes) ≡ convertInto writes from to reading leaps bytes
+unfolding convertInto
+into writes from to reading leaps bytes reads fits right asked read reads-is fits-is right-is is was =
+    rw (← reads-is, ← fits-is, ← right-is, ← was)
+    (by-asked from to (judged bytes) (coefficientsIn bytes) reads writes fits right asked read is)

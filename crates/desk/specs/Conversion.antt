@@ -1,6 +1,6 @@
 -- A conversion: what is settled first, 'then 2 over both parts, 3 over both parts .., 4, then step
--- by step, 6 before 4'. A single conversion lends no list, so that it has no 8.
-use mathlib.Core.Bool.{true}
+-- by step, 6 before 4'; a UTC reading has '5 .. after 3'.
+use mathlib.Core.Bool.{Bool, true}
 use mathlib.Core.List.{List}
 use Prim.Native.Nat.{ℕ}
 use lib.IntN.{ℤ}
@@ -14,14 +14,15 @@ use Rattle.blocks.specs.declared.answer.Judged.{Judged}
 use Rattle.blocks.specs.declared.answer.Judged.the-variants as J
 use Rattle.blocks.specs.Judging.{judged}
 use Rattle.opened.specs.Opened.{coefficientsIn}
-use Rattle.dates.specs.declared.reading.Read.{Read}
-use Rattle.dates.specs.declared.reading.Read.the-variants as R
+use Rattle.scales.specs.declared.answer.Read.{Read}
+use Rattle.scales.specs.declared.answer.Read.the-variants as R
 use Rattle.dates.specs.declared.reading.Reading.{Reading}
-use Rattle.dates.specs.Readings.{readOf}
+use Rattle.dates.specs.Readings.{inRange, readOf, purposeOf}
 use Rattle.walk.specs.declared.kept.Kept.{Kept}
 use Rattle.walk.specs.declared.kept.Kept.the-variants.{Nothing, Table}
 use Rattle.walk.specs.Walk.{walkBetween}
 use Rattle.desk.specs.Order.{Check, passes, refuses, settled}
+use Rattle.desk.specs.Order.{leapsFit, leapsRight}
 
 -- what is answered where all is settled, else the refusal
 abbrev pub answering : Check → Answer → Answer
@@ -42,13 +43,27 @@ abbrev pub heldBy : Judged → Kept
 heldBy (J.Accepted table) = Table table
 heldBy (J.Refused refusal) = Nothing
 
--- a conversion over table bytes that were judged and the coefficients that they hold
-unfoldable pub convertJudged : Purpose → ℕ → ℕ → Reading → Judged → List ℤ → Answer
-convertJudged purpose from to reading table coefficients =
-    answering (settled purpose from to true table)
-    (betweenOf (named from) (named to) (readOf reading) (heldBy table) coefficients)
+-- a conversion of what was read, over table bytes that were judged and the coefficients that they
+-- hold: what each code is read for, the codes, and whether the lent lists fit and are right
+unfoldable pub convertRead : Purpose → Purpose → ℕ → ℕ → Bool → Bool → Read → Judged → List ℤ
+    → Answer
+convertRead reads writes from to fits right read table coefficients =
+    answering (settled reads writes from to fits right table)
+    (betweenOf (named from) (named to) read (heldBy table) coefficients)
 
--- the whole rule of a conversion: two codes, a reading, table bytes
-unfoldable pub convertOf : ℕ → ℕ → Reading → List ℕ → Answer
-convertOf from to reading bytes =
-    convertJudged P.Reading from to reading (judged bytes) (coefficientsIn bytes)
+-- of a tick, for which no list is lent
+abbrev pub convertJudged : Purpose → ℕ → ℕ → ℤ → Judged → List ℤ → Answer
+convertJudged purpose from to tick table coefficients =
+    convertRead purpose purpose from to true true (inRange tick) table coefficients
+
+-- the whole rule of a conversion, whatever the second code is read for: two codes, a reading, a
+-- list of leap seconds, table bytes
+unfoldable pub convertInto : Purpose → ℕ → ℕ → Reading → List ℤ → List ℕ → Answer
+convertInto writes from to reading leaps bytes =
+    let reads = purposeOf reading in
+    convertRead reads writes from to (leapsFit reads writes leaps) (leapsRight reads writes leaps)
+    (readOf leaps reading) (judged bytes) (coefficientsIn bytes)
+
+-- that of a conversion into ticks
+abbrev pub convertOf : ℕ → ℕ → Reading → List ℤ → List ℕ → Answer
+convertOf from to reading leaps bytes = convertInto P.Reading from to reading leaps bytes

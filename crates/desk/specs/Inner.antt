@@ -1,6 +1,6 @@
 -- What the inner functions ask of their callers, and what they give.
 use mathlib.Core.Bool.{Bool, cond}
-use mathlib.Core.List.{List, []}
+use mathlib.Core.List.{List, [], _∷_}
 use Prim.Native.Nat.{ℕ}
 use lib.IntN.{ℤ}
 use Rattle.scales.specs.declared.answer.Answer.{Answer}
@@ -14,11 +14,12 @@ use Rattle.image.specs.Image.{coefficientsStored}
 use Rattle.blocks.specs.declared.answer.Judged.{Judged}
 use Rattle.blocks.specs.Judging.{judged}
 use Rattle.opened.specs.Opened.{coefficientsIn}
-use Rattle.dates.specs.declared.reading.Read.{Read}
+use Rattle.scales.specs.declared.answer.Read.{Read}
 use Rattle.desk.specs.declared.asked.Asked.{Asked}
 use Rattle.desk.specs.declared.asked.Asked.the-variants as A
 use Rattle.walk.specs.declared.kept.Kept.the-variants as K
-use Rattle.desk.specs.Order.{Check, passes, refuses, firstOf, beforeTable, ofTable}
+use Rattle.desk.specs.Order.{Check, passes, refuses, unless, firstOf}
+use Rattle.desk.specs.Order.{beforeTable, ofTable}
 use Rattle.desk.specs.Conversion.{answering, betweenOf, heldBy}
 
 -- ---- what is asked, before any table or reading is looked at
@@ -26,9 +27,13 @@ abbrev pub askedBy : Check → Scale → Scale → Asked
 askedBy passes start end = cond (crosses start end) (A.Crossing start end) (A.Plain start end)
 askedBy (refuses refusal) start end = A.Refused refusal
 
-unfoldable pub askedOf : Purpose → ℕ → ℕ → Bool → Asked
-askedOf purpose from to fits =
-    askedBy (firstOf (beforeTable purpose from to fits)) (named from) (named to)
+unfoldable pub askedOf : Purpose → Purpose → ℕ → ℕ → Bool → Bool → Asked
+askedOf reads writes from to fits right =
+    askedBy (firstOf (beforeTable reads writes from to fits right)) (named from) (named to)
+
+-- the lent lists by themselves
+abbrev pub lentChecks : Bool → Bool → Check
+lentChecks fits right = firstOf (unless fits 8 0 ∷ unless right 7 0 ∷ [])
 
 -- ---- a conversion by what is asked and what was read
 abbrev pub crossedOf : Scale → Scale → Read → Judged → List ℤ → Answer
@@ -48,6 +53,3 @@ takenOver from to read bytes table =
 
 abbrev pub overBytes : Scale → Scale → Read → List ℕ → Answer
 overBytes from to read bytes = crossedOf from to read (judged bytes) (coefficientsIn bytes)
-
-abbrev pub askedOver : Asked → Read → List ℕ → Answer
-askedOver asked read bytes = convertAsked asked read (judged bytes) (coefficientsIn bytes)

@@ -1,13 +1,18 @@
 -- 'Order: 1 (from, then to), 8, then the table 10 to 16 if the path crosses TT to TDB, .., then 2
--- ..': what is settled before a reading is looked at, in this order, for one reading, for a line
--- and for a batch.
-use mathlib.Core.Bool.{Bool, cond}
+-- ..', and of UTC '7 .. after 8 and before 10': what is settled before a reading is looked at, in
+-- this order, for one reading, for a line and for a batch.
+use mathlib.Core.Bool.{Bool, true, false, cond, not, _||_}
 use mathlib.Core.List.{List, [], _∷_, _++_}
-use Prim.Native.Nat.{ℕ}
+use Prim.Native.Nat.{ℕ, _%_}
+use lib.Dec.{eqb}
+use lib.IntN.{ℤ}
+use lib.ListN.{length}
 use Rattle.scales.specs.declared.refusal.Refusal.{Refusal}
 use Rattle.scales.specs.declared.scale.Purpose.{Purpose}
+use Rattle.scales.specs.declared.scale.Purpose.the-variants.{Reading, Batch, Line, Utc}
 use Rattle.scales.specs.Path.{crosses}
 use Rattle.scales.specs.Scales.{isCode, named}
+use Rattle.utc.specs.Leaps.{isListRight}
 use Rattle.blocks.specs.declared.answer.Judged.{Judged}
 use Rattle.blocks.specs.declared.answer.Judged.the-variants as J
 
@@ -26,12 +31,14 @@ firstOf [] = passes
 firstOf (passes ∷ more) = firstOf more
 firstOf (refuses refusal ∷ more) = refuses refusal
 
--- '1: scale code above 6', place '0 from, 1 to'; '8: lent lengths don't fit', place 0
-abbrev pub beforeTable : Purpose → ℕ → ℕ → Bool → List Check
-beforeTable purpose from to fits =
-    unless (isCode purpose from) 1 0
-    ∷ unless (isCode purpose to) 1 1
+-- '1: scale code above 6', place '0 from, 1 to', by what each code is read for; '8: lent lengths
+-- don't fit', place 0; '7 exactly when the list breaks a rule'
+abbrev pub beforeTable : Purpose → Purpose → ℕ → ℕ → Bool → Bool → List Check
+beforeTable reads writes from to fits right =
+    unless (isCode reads from) 1 0
+    ∷ unless (isCode writes to) 1 1
     ∷ unless fits 8 0
+    ∷ unless right 7 0
     ∷ []
 
 -- what the judgement of table bytes says
@@ -43,6 +50,23 @@ ofTable (J.Refused refusal) = refuses refusal
 abbrev pub ifCrossed : ℕ → ℕ → Check → Check
 ifCrossed from to check = cond (crosses (named from) (named to)) check passes
 
-unfoldable pub settled : Purpose → ℕ → ℕ → Bool → Judged → Check
-settled purpose from to fits table =
-    firstOf (beforeTable purpose from to fits ++ ifCrossed from to (ofTable table) ∷ [])
+unfoldable pub settled : Purpose → Purpose → ℕ → ℕ → Bool → Bool → Judged → Check
+settled reads writes from to fits right table =
+    firstOf (beforeTable reads writes from to fits right ++ ifCrossed from to (ofTable table) ∷ [])
+
+-- ---- the list of leap seconds is looked at where one of the codes is read for UTC
+abbrev pub isUtc : Purpose → Bool
+isUtc Reading = false
+isUtc Batch = false
+isUtc Line = false
+isUtc Utc = true
+
+abbrev pub usesLeaps : Purpose → Purpose → Bool
+usesLeaps reads writes = isUtc reads || isUtc writes
+
+-- 'A flat list of odd length is 8'
+abbrev pub leapsFit : Purpose → Purpose → List ℤ → Bool
+leapsFit reads writes leaps = not (usesLeaps reads writes) || eqb (length leaps % 2) 0
+
+abbrev pub leapsRight : Purpose → Purpose → List ℤ → Bool
+leapsRight reads writes leaps = not (usesLeaps reads writes) || isListRight leaps

@@ -1,29 +1,34 @@
 // A conversion: 'Order: 1 (from, then to), .. then the table 10 to 16 if the path crosses TT to
-// TDB, .. then 2 .., 3 .., 4, then step by step, 6 before 4.'
+// TDB, .. then 2 .., 3 .., 4, then step by step, 6 before 4.' Of UTC 8 and 7 come before the table,
+// and 5 after 3.
 use crate::asked::Asked;
 use crate::asked::asked_of;
+use crate::leaps::leaps_fit;
+use crate::leaps::leaps_right;
 use blocks::answer::Judged;
 use blocks::judging::judge;
-use dates::reading::Read;
 use dates::reading::Reading;
+use dates::reading::purpose_of;
+use dates::reading::ranged;
 use dates::reading::tick_of;
 use image::table::Table;
 use opened::how_many;
 use opened::taken;
 use scales::answer::Answer;
 use scales::answer::Epoch;
+use scales::answer::Read;
 use scales::path::is_one_scale;
-use scales::refusal::Refusal;
 use scales::scale::Purpose;
 use scales::scale::Scale;
 use walk::kept::Kept;
 use walk::walk::walk;
 ghost use mathlib.Core.Path.{_≡_};
-ghost use Rattle.dates.specs.declared.reading.Read.the-variants as R;
-ghost use Rattle.desk.specs.Conversion.{betweenOf, convertJudged, convertOf};
+ghost use mathlib.Core.List.{[]};
+ghost use Rattle.walk.specs.declared.kept.Kept.the-variants.{Nothing};
 ghost use Rattle.walk.specs.Inner.{Held};
 ghost use Rattle.opened.specs.Opened.{Opened, Lent};
-ghost use Rattle.desk.specs.Inner.{crossedOf, askedOver, overBytes, takenOver};
+ghost use Rattle.desk.specs.Conversion.{betweenOf, convertInto, convertOf, convertJudged};
+ghost use Rattle.desk.specs.Inner.{crossedOf, overBytes, takenOver};
 
 // What was read, walked. The coefficients are those of the table that is kept.
 pub fn between(from: Scale, to: Scale, read: Read, kept: Kept, coefficients: &[i64]) -> Answer
@@ -57,45 +62,65 @@ fn over_bytes(from: Scale, to: Scale, read: Read, bytes: &[u8]) -> Answer
     }
 }
 
-// A tick that was read, converted. Into its own scale it goes as it is, which is all that a reading
-// by itself takes: that answer is returned at once.
-fn convert_tick(asked: Asked, tick: i64, table: &[u8]) -> Answer
-    ensures { λ r. ⌜ r ≡ askedOver asked (R.Tick tick) (now (table .entry)) ⌝ }
+// On a path that needs no table. Into its own scale a tick goes as it is, which is all that a
+// reading by itself takes: that answer is returned at once.
+fn convert_plain(from: Scale, to: Scale, read: Read) -> Answer
+    ensures { λ r. ⌜ r ≡ betweenOf from to read Nothing [] ⌝ }
 {
-    match asked {
-        Asked::Plain(start, end) => {
-            if is_one_scale(start, end) {
-                return Answer::Converted(Epoch { scale: start, tick }, 0);
+    match read {
+        Read::Tick(tick) => {
+            if is_one_scale(from, to) {
+                return Answer::Converted(Epoch { scale: from, tick }, 0);
             }
-            walk(start, end, tick, Kept::Nothing, &[])
+            walk(from, to, tick, Kept::Nothing, &[])
         }
-        Asked::Crossing(start, end) => over_bytes(start, end, Read::Tick(tick), table),
-        Asked::Refused(refusal) => Answer::Refused(refusal),
+        Read::Refused(refusal) => Answer::Refused(refusal),
     }
 }
 
-// A reading that was refused: what comes before it in the order is refused first.
-fn refuse(asked: Asked, refusal: Refusal, table: &[u8]) -> Answer
-    ensures { λ r. ⌜ r ≡ askedOver asked (R.Refused refusal) (now (table .entry)) ⌝ }
+// On one that crosses: the table's refusals come before the reading's.
+fn convert_crossing(from: Scale, to: Scale, read: Read, table: &[u8]) -> Answer
+    ensures { λ r. ⌜ r ≡ overBytes from to read (now (table .entry)) ⌝ }
 {
-    match asked {
-        Asked::Plain(_, _) => Answer::Refused(refusal),
-        Asked::Crossing(start, end) => over_bytes(start, end, Read::Refused(refusal), table),
-        Asked::Refused(earlier) => Answer::Refused(earlier),
+    match read {
+        Read::Tick(tick) => over_bytes(from, to, Read::Tick(tick), table),
+        Read::Refused(refusal) => over_bytes(from, to, Read::Refused(refusal), table),
     }
 }
 
 // Converts a reading in the scale of the first code into the scale of the second, in ticks, over
-// the table that the bytes hold; or tells the refusal. 'A path that doesn't cross never looks at
-// the table.'
-pub fn convert(from: u32, to: u32, reading: Reading, table: &[u8]) -> Answer
-    ensures { λ r. ⌜ r ≡ convertOf from to reading (now (table .entry)) ⌝ }
+// the table that the bytes hold, whatever the second code is read for; or tells the refusal. 'A
+// path that doesn't cross never looks at the table', and what has no use for the list of leap
+// seconds never looks at that.
+pub fn convert_into(
+    writes: Purpose,
+    from: u32,
+    to: u32,
+    reading: Reading,
+    leaps: &[i64],
+    table: &[u8],
+) -> Answer
+    ensures { λ r. ⌜
+        r ≡ convertInto writes from to reading (now (leaps .entry)) (now (table .entry)) ⌝ }
 {
-    let asked = asked_of(Purpose::Reading, from, to, true);
-    match tick_of(reading) {
-        Read::Tick(tick) => convert_tick(asked, tick, table),
-        Read::Refused(refusal) => refuse(asked, refusal, table),
+    let reads = purpose_of(reading);
+    let fits = leaps_fit(reads, writes, leaps);
+    let right = leaps_right(reads, writes, leaps);
+    match asked_of(reads, writes, from, to, fits, right) {
+        Asked::Plain(start, end) => convert_plain(start, end, tick_of(reading, leaps)),
+        Asked::Crossing(start, end) => {
+            convert_crossing(start, end, tick_of(reading, leaps), table)
+        }
+        Asked::Refused(refusal) => Answer::Refused(refusal),
     }
+}
+
+// The same into ticks.
+pub fn convert(from: u32, to: u32, reading: Reading, leaps: &[i64], table: &[u8]) -> Answer
+    ensures { λ r. ⌜
+        r ≡ convertOf from to reading (now (leaps .entry)) (now (table .entry)) ⌝ }
+{
+    convert_into(Purpose::Reading, from, to, reading, leaps, table)
 }
 
 fn crossed(from: Scale, to: Scale, read: Read, judged: Judged, coefficients: &[i64]) -> Answer
@@ -108,22 +133,22 @@ fn crossed(from: Scale, to: Scale, read: Read, judged: Judged, coefficients: &[i
     }
 }
 
-// The same over table bytes that have been judged, for callers that convert line by line. The
-// coefficients are those of the table, if it was accepted.
+// The same of a tick over table bytes that have been judged, for callers that convert line by line.
+// The coefficients are those of the table, if it was accepted.
 pub fn convert_judged(
     purpose: Purpose,
     from: u32,
     to: u32,
-    reading: Reading,
+    tick: i64,
     judged: Judged,
     coefficients: &[i64],
 ) -> Answer
     requires { ⌜ Lent judged (now coefficients) ⌝ }
     ensures { λ r. ⌜ r
-        ≡ convertJudged purpose from to reading judged (now (coefficients .entry)) ⌝ }
+        ≡ convertJudged purpose from to tick judged (now (coefficients .entry)) ⌝ }
 {
-    let read = tick_of(reading);
-    match asked_of(purpose, from, to, true) {
+    let read = ranged(tick);
+    match asked_of(purpose, purpose, from, to, true, true) {
         Asked::Plain(start, end) => between(start, end, read, Kept::Nothing, &[]),
         Asked::Crossing(start, end) => crossed(start, end, read, judged, coefficients),
         Asked::Refused(refusal) => Answer::Refused(refusal),

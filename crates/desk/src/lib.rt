@@ -3,3 +3,4 @@
 // is, the crates below know.
 pub mod asked;
 pub mod conversion;
+mod leaps;

@@ -19,8 +19,8 @@ use Rattle.scales.specs.declared.path.Step.{Step}
 use Rattle.scales.specs.declared.scale.Scale.{Scale}
 use Rattle.scales.specs.Path.{path, steps}
 use Rattle.scales.specs.Tick.{isValid}
-use Rattle.dates.specs.declared.reading.Read.the-variants as R
-use Rattle.dates.specs.Readings.{inRange, readOf}
+use Rattle.scales.specs.declared.answer.Read.the-variants as R
+use Rattle.dates.specs.Readings.{inRange}
 use Rattle.dates.specs.Readings as readings
 use Rattle.entries.specs.declared.batched.Batched.the-variants as Batched
 use Rattle.entries.specs.declared.trying.Ends.{Ends}
@@ -61,7 +61,7 @@ module _ (kept : Kept) (cs : List ℤ) where
     walk tick = walkBetween kept cs from to tick
 
     read-accepted : (t : ℤ) → Answered (entryOf from to kept cs t) → (isValid t ≡ true) × Answered (walk t)
-    unfolding betweenOf readOf inRange
+    unfolding betweenOf inRange
     read-accepted t a = by (isValid t) (a .2)
       where
         by : (valid : Bool) → started walk (readings.refusedIf (not valid) 4 0 (R.Tick t)) ≡ Converted (a .0) (a .1)
@@ -70,13 +70,13 @@ module _ (kept : Kept) (cs : List ℤ) where
         by false e = not-both refl e
 
     pub entry-walk : (t : ℤ) → Answered (entryOf from to kept cs t) → entryOf from to kept cs t ≡ walk t
-    unfolding betweenOf readOf inRange
+    unfolding betweenOf inRange
     entry-walk t a = rw (read-accepted t a .0)
 
     pub entry-within : Held kept cs → (t u v : ℤ) → Answered (entryOf from to kept cs t)
         → Answered (entryOf from to kept cs v) → t ≤ℤ u → u ≤ℤ v
         → Answered (entryOf from to kept cs u)
-    unfolding betweenOf readOf inRange
+    unfolding betweenOf inRange
     entry-within h t u v early late l m =
         let a = read-accepted t early in
         let b = read-accepted v late in

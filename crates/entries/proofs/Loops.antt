@@ -12,7 +12,7 @@ use Rattle.scales.specs.declared.answer.Answer.the-variants as Answer
 use Rattle.scales.specs.declared.answer.Epoch.{Epoch}
 use Rattle.scales.specs.declared.refusal.Refusal.{Refusal}
 use Rattle.scales.specs.declared.scale.Scale.{Scale}
-use Rattle.dates.specs.Readings.{inRange, readOf}
+use Rattle.dates.specs.Readings.{inRange}
 use Rattle.entries.specs.declared.batched.Batched.the-variants.{Converted, Refused}
 use Rattle.walk.specs.declared.kept.Kept.{Kept}
 use Rattle.desk.specs.Conversion.{betweenOf}
@@ -56,5 +56,4 @@ module _ (earliest latest : ℤ) (ticks : List ℤ) (index : ℕ) where
 -- ---- an entry is read as the tick that it is
 pub entry-read : (from to : Scale) (kept : Kept) (coefficients : List ℤ) (tick : ℤ)
     → betweenOf from to (inRange tick) kept coefficients ≡ entryOf from to kept coefficients tick
-unfolding readOf
 entry-read from to kept coefficients tick = refl

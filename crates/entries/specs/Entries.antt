@@ -7,8 +7,7 @@ use Rattle.scales.specs.declared.answer.Answer.{Answer}
 use Rattle.scales.specs.declared.answer.Answer.the-variants as Answer
 use Rattle.scales.specs.declared.scale.Scale.{Scale}
 use Rattle.scales.specs.Path.{steps}
-use Rattle.dates.specs.declared.reading.Reading.the-variants.{Ticks}
-use Rattle.dates.specs.Readings.{readOf}
+use Rattle.dates.specs.Readings.{inRange}
 use Rattle.entries.specs.declared.batched.Batched.{Batched}
 use Rattle.entries.specs.declared.batched.Batched.the-variants.{Converted, Refused}
 use Rattle.walk.specs.declared.kept.Kept.{Kept}
@@ -16,7 +15,7 @@ use Rattle.desk.specs.Conversion.{betweenOf}
 
 -- one entry
 abbrev pub entryOf : Scale → Scale → Kept → List ℤ → ℤ → Answer
-entryOf from to kept coefficients tick = betweenOf from to (readOf (Ticks tick)) kept coefficients
+entryOf from to kept coefficients tick = betweenOf from to (inRange tick) kept coefficients
 
 -- 'the earliest refusal is the batch's, with its index'
 abbrev pub earlier : Answer → ℕ → Batched → Batched

@@ -2,7 +2,7 @@
 use lib.Ieee.{binary64, ofBits}
 use Rattle.dates.specs.declared.writing.Written.{Written}
 use Rattle.dates.specs.declared.writing.Written.the-variants as W
-use Rattle.hosts.specs.declared.written.DateAnswer.{DateAnswer}
+use Rattle.hosts.specs.declared.date.DateAnswer.{DateAnswer}
 
 -- 'every other field is 0': the double whose bits are all 0
 abbrev pub dateAnswer : Written → DateAnswer

@@ -2,3 +2,4 @@ pub mod Answers
 pub mod Tables
 pub mod Dates
 pub mod Conversions
+pub mod Utc

@@ -4,6 +4,7 @@ use blocks::answer::Judged;
 use scales::refusal::Refusal;
 ghost use mathlib.Core.Path.{_≡_};
 ghost use Rattle.hosts.specs.Answers.{tableAnswer, doneAnswer, refusedAnswer};
+ghost use Rattle.hosts.specs.Conversions.{convertedAnswer};
 
 #[repr(C)]
 pub struct Answer {
@@ -68,6 +69,22 @@ pub fn refused_by(refusal: Refusal) -> Answer
     ensures { λ r. ⌜ r ≡ refusedAnswer (refusal .number) (refusal .place) ⌝ }
 {
     refused(refusal.number, refusal.place)
+}
+
+// A conversion: its tick and steps, or the refusal.
+pub fn converted_answer(answer: scales::answer::Answer) -> Answer
+    ensures { λ r. ⌜ r ≡ convertedAnswer answer ⌝ }
+{
+    match answer {
+        scales::answer::Answer::Converted(epoch, steps) => Answer {
+            number: 0,
+            steps,
+            place: 0,
+            index: 0,
+            tick: epoch.tick,
+        },
+        scales::answer::Answer::Refused(refusal) => refused_by(refusal),
+    }
 }
 
 // What was done without a tick to tell: accepted, or the refusal.

@@ -1,30 +1,15 @@
 // Conversions: of ticks, of a date, of seconds past J2000, and a batch.
 use crate::answers::Answer;
-use crate::answers::refused_by;
+use crate::answers::converted_answer;
 use batch::batch;
 use dates::reading::Reading;
 use desk::conversion::convert;
 use entries::batched::Batched;
 ghost use mathlib.Core.Path.{_≡_};
+ghost use mathlib.Core.List.{[]};
 ghost use Rattle.dates.specs.declared.reading.Reading.the-variants.{TwoPart, SinceJ2000, Ticks};
 ghost use Rattle.desk.specs.Conversion.{convertOf};
 ghost use Rattle.hosts.specs.Conversions.{convertedAnswer, batchAnswer, BatchConverted};
-
-// A conversion: its tick and steps, or the refusal.
-fn converted_answer(answer: scales::answer::Answer) -> Answer
-    ensures { λ r. ⌜ r ≡ convertedAnswer answer ⌝ }
-{
-    match answer {
-        scales::answer::Answer::Converted(epoch, steps) => Answer {
-            number: 0,
-            steps,
-            place: 0,
-            index: 0,
-            tick: epoch.tick,
-        },
-        scales::answer::Answer::Refused(refusal) => refused_by(refusal),
-    }
-}
 
 // A batch: the path's steps, or the refusal and the entry's index.
 fn batch_answer(batched: Batched) -> Answer
@@ -52,9 +37,10 @@ fn batch_answer(batched: Batched) -> Answer
 // second.
 #[no_mangle]
 pub extern "C" fn colliedash_convert_ticks(from: u32, to: u32, tick: i64, table: &[u8]) -> Answer
-    ensures { λ r. ⌜ r ≡ convertedAnswer (convertOf from to (Ticks tick) (now (table .entry))) ⌝ }
+    ensures { λ r. ⌜
+        r ≡ convertedAnswer (convertOf from to (Ticks tick) [] (now (table .entry))) ⌝ }
 {
-    converted_answer(convert(from, to, Reading::Ticks(tick), table))
+    converted_answer(convert(from, to, Reading::Ticks(tick), &[], table))
 }
 
 // The same of a two-part Julian date, in days.
@@ -67,18 +53,18 @@ pub extern "C" fn colliedash_convert_date(
     table: &[u8],
 ) -> Answer
     ensures { λ r. ⌜
-        r ≡ convertedAnswer (convertOf from to (TwoPart first second) (now (table .entry))) ⌝ }
+        r ≡ convertedAnswer (convertOf from to (TwoPart first second) [] (now (table .entry))) ⌝ }
 {
-    converted_answer(convert(from, to, Reading::TwoPart(first, second), table))
+    converted_answer(convert(from, to, Reading::TwoPart(first, second), &[], table))
 }
 
 // The same of seconds past J2000.
 #[no_mangle]
 pub extern "C" fn colliedash_convert_j2000(from: u32, to: u32, seconds: f64, table: &[u8]) -> Answer
     ensures { λ r. ⌜
-        r ≡ convertedAnswer (convertOf from to (SinceJ2000 seconds) (now (table .entry))) ⌝ }
+        r ≡ convertedAnswer (convertOf from to (SinceJ2000 seconds) [] (now (table .entry))) ⌝ }
 {
-    converted_answer(convert(from, to, Reading::SinceJ2000(seconds), table))
+    converted_answer(convert(from, to, Reading::SinceJ2000(seconds), &[], table))
 }
 
 // A list of ticks into a second list of equal length: all of them, or a refusal that writes

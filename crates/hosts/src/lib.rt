@@ -3,5 +3,6 @@
 // `requires`. `include/colliedash.h` declares the same.
 mod answers;
 pub mod conversions;
+pub mod date;
+pub mod leaps;
 pub mod tables;
-pub mod written;

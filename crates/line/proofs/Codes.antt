@@ -1,6 +1,6 @@
 -- A line's number as a code: those that fit are handed on, and the desk refuses every other, and
 -- each that is above the highest code, with 1. Assumes nothing.
-use borrow.Author.Tests.{lt-ltb, le-ltb, lt-leb}
+use borrow.Author.Tests.{lt-ltb, le-ltb, le-leb, lt-leb}
 use mathlib.Core.Path.{_≡_, refl, ap}
 use mathlib.Core.Logic.{_⊎_, inl, inr}
 use Prim.Native.Nat.{ℕ, _<_, zero-le}
@@ -11,7 +11,7 @@ use lib.IntN.{ℤ, pos, negsuc}
 use lib.Signed.{_<ℤ_, clashℤ}
 use Rattle.numbers.proofs.Order.{le-pos}
 use Rattle.scales.specs.declared.scale.Purpose.the-variants as P
-use Rattle.scales.specs.Scales.{highestCode, scaleOf}
+use Rattle.scales.specs.Scales.{lowestCode, highestCode, scaleOf}
 use Rattle.scales.specs.declared.scale.Named.the-variants.{Refused}
 use Rattle.line.specs.Lines.{codeOf, noCode}
 
@@ -35,7 +35,7 @@ stays-above n h = elim (decLt n noCode) [
 
 refused-above : (code place : ℕ) → highestCode P.Line < code
     → scaleOf P.Line code place ≡ Refused (record { number = 1; place = place })
-refused-above code place h = rw (lt-leb code (highestCode P.Line) h)
+refused-above code place h = rw (le-leb (lowestCode P.Line) code zero-le, lt-leb code (highestCode P.Line) h)
 
 -- 'A code outside 0..6 is refusal 1'
 pub refused-outside : (z : ℤ) (place : ℕ) → (z <ℤ pos 0) ⊎ (pos (highestCode P.Line) <ℤ z)

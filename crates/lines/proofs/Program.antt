@@ -16,15 +16,14 @@ use Rattle.blocks.specs.declared.answer.Judged.{Judged}
 use Rattle.blocks.specs.declared.answer.Judged.the-variants as J
 use Rattle.blocks.specs.Answers.{judgedNumber, judgedCount, judgedDegree}
 use Rattle.blocks.specs.Judging.{judged}
-use Rattle.dates.specs.declared.reading.Read.{Read}
-use Rattle.dates.specs.declared.reading.Reading.{Reading}
-use Rattle.dates.specs.Readings.{readOf}
+use Rattle.scales.specs.declared.answer.Read.{Read}
+use Rattle.dates.specs.Readings.{inRange}
 use Rattle.desk.specs.declared.asked.Asked.{Asked}
 use Rattle.desk.specs.declared.asked.Asked.the-variants as A
 use Rattle.opened.specs.Opened.{coefficientsIn}
 use Rattle.desk.specs.Conversion.{convertJudged}
 use Rattle.desk.specs.Inner.{askedOf, convertAsked}
-use Rattle.desk.proofs.Asking.{by-asked}
+use Rattle.desk.proofs.Asking.{of-tick}
 use Rattle.opened.proofs.Opening.{coefficients-are}
 use Rattle.line.specs.declared.reading.Line.{Line}
 use Rattle.line.specs.declared.reading.Line.the-variants.{Numbers, Refused}
@@ -45,15 +44,14 @@ module _ (refusal : Refusal) (one other : List ℤ) where
   asked-any (A.Crossing from to) read = refl
   asked-any (A.Refused r) read = refl
 
-  converted-any : (from to : ℕ) (reading : Reading)
-      → convertJudged P.Line from to reading (J.Refused refusal) one
-      ≡ convertJudged P.Line from to reading (J.Refused refusal) other
-  converted-any from to reading =
-      let asked = askedOf P.Line from to true in
-      let read = readOf reading in
-      sym (by-asked P.Line from to reading (J.Refused refusal) one asked read refl refl)
-      ∙ asked-any asked read
-      ∙ by-asked P.Line from to reading (J.Refused refusal) other asked read refl refl
+  converted-any : (from to : ℕ) (tick : ℤ)
+      → convertJudged P.Line from to tick (J.Refused refusal) one
+      ≡ convertJudged P.Line from to tick (J.Refused refusal) other
+  converted-any from to tick =
+      let asked = askedOf P.Line P.Line from to true true in
+      sym (of-tick P.Line from to tick (J.Refused refusal) one asked (inRange tick) refl refl)
+      ∙ asked-any asked (inRange tick)
+      ∙ of-tick P.Line from to tick (J.Refused refusal) other asked (inRange tick) refl refl
 
   line-any : (line : Line) → printedFor (J.Refused refusal) one line ≡ printedFor (J.Refused refusal) other line
   unfolding printedFor

@@ -12,7 +12,6 @@ use Rattle.scales.specs.declared.answer.Answer.the-variants as A
 use Rattle.scales.specs.declared.scale.Purpose.the-variants as P
 use Rattle.blocks.specs.declared.answer.Judged.{Judged}
 use Rattle.blocks.specs.Judging.{judged}
-use Rattle.dates.specs.declared.reading.Reading.the-variants.{Ticks}
 use Rattle.opened.specs.Opened.{coefficientsIn}
 use Rattle.desk.specs.Conversion.{convertJudged}
 use Rattle.line.specs.declared.reading.Line.{Line}
@@ -55,7 +54,7 @@ linesRead input = readFrom 1 (linesOf input)
 -- understood
 abbrev pub answerOf : Judged → List ℤ → Line → Answer
 answerOf table coefficients (Numbers from to tick) =
-    convertJudged P.Line (codeOf from) (codeOf to) (Ticks tick) table coefficients
+    convertJudged P.Line (codeOf from) (codeOf to) tick table coefficients
 answerOf table coefficients (Refused refusal) = A.Refused refusal
 
 -- '`to` is the code asked'. A line that is not understood asks for none, and none is printed

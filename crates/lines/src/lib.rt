@@ -3,7 +3,6 @@
 // unfinished. Lines of any length are answered out of buffers of a fixed length: of an unfinished
 // line no more than 65 bytes are kept, since with any more behind them it is too long anyway.
 use blocks::answer::Judged;
-use dates::reading::Reading;
 use desk::conversion::convert_judged;
 use line::reading::Line;
 use line::reading::code_of;
@@ -56,12 +55,11 @@ fn answer_to(text: &[u8], line: u64, judged: Judged, coefficients: &[i64]) -> An
 {
     match read_line(text, line) {
         Line::Numbers(from, to, tick) => {
-            let reading = Reading::Ticks(tick);
             let answer = convert_judged(
                 Purpose::Line,
                 code_of(from),
                 code_of(to),
-                reading,
+                tick,
                 judged,
                 coefficients,
             );

@@ -1,9 +1,9 @@
 -- What a batch answers, by its number, place, index and steps: the conversions of its entries, or
 -- the first of them that is refused; and that it looks at no table that its path does not cross.
 -- Assumes nothing.
-use mathlib.Core.Path.{_≡_, refl, sym, _∙_, ap}
+use mathlib.Core.Path.{_≡_, refl, sym, ap}
 use mathlib.Core.Logic.{⊎-elim}
-use mathlib.Core.Bool.{false}
+use mathlib.Core.Bool.{false, true}
 use mathlib.Core.List.{List, [], _∷_, map}
 use Prim.Native.Nat.{ℕ, suc, _≤_, _<_}
 use native.Mathlib.Omega.{arith}
@@ -18,24 +18,25 @@ use Rattle.scales.specs.Answers.{answerNumber, answerPlace, answerTick, answerS
 use Rattle.scales.specs.Path.{steps, crosses}
 use Rattle.scales.specs.Scales.{named}
 use Rattle.dates.specs.declared.reading.Reading.the-variants.{Ticks}
-use Rattle.desk.specs.Conversion.{convertOf}
+use Rattle.desk.specs.Conversion.{convertOf, convertRead, convertInto, betweenOf, answering}
 use Rattle.entries.specs.declared.batched.Batched.{Batched}
 use Rattle.entries.specs.declared.batched.Batched.the-variants.{Converted, Refused}
 use Rattle.entries.specs.Batched.{batchedNumber, batchedPlace, batchedIndex, batchedSteps}
 use Rattle.batch.specs.Batch.{batchOf, batchInto}
 use Rattle.batch.proofs.BatchTheorems as batches
 use Rattle.opened.specs.Opened.{coefficientsIn}
-use Rattle.desk.specs.Order.{settled}
+use Rattle.blocks.specs.Judging.{judged}
+use Rattle.desk.specs.Order.{settled, Check, passes, refuses}
 use Rattle.desk.proofs.Asking.{between-unseen}
-use Rattle.dates.specs.Readings.{readOf}
+use Rattle.dates.specs.Readings.{readOf, inRange}
 use Rattle.entries.specs.Entries.{earlier, triedOf}
 use Rattle.entries.proofs.Interval.{entry-within}
 use Rattle.desk.proofs.Steps.{conversion-steps}
-use Rattle.walk.proofs.Steps.{Answered}
 use Rattle.promises.specs.Words.{tableIn}
 use Rattle.promises.proofs.Exactly.{converted, batch-converted}
-use Rattle.promises.proofs.Walks.{apart, Course, from-refused, to-refused, table-refused, walking, course, bytes-held}
+use Rattle.promises.proofs.Walks.{apart, bytes-held}
 use Rattle.promises.proofs.Refusals.{table-unseen}
+use Rattle.scales.specs.declared.scale.Purpose.the-variants as P
 
 -- what a number other than 0 means
 refused-is : (batched : Batched) → 0 < batchedNumber batched
@@ -50,7 +51,7 @@ module _ (from to : ℕ) (ticks answers : List ℤ) (bytes : List ℕ) where
 
   -- the conversion of the entry i
   abbrev conversion : ℕ → Answer
-  conversion i = convertOf from to (Ticks (getD ticks i (pos 0))) bytes
+  conversion i = convertOf from to (Ticks (getD ticks i (pos 0))) [] bytes
 
   -- ---- 'An accepted batch answers the path's steps'
   pub steps-answered : batchedNumber batched ≡ 0 → batchedSteps batched ≡ steps (named from) (named to)
@@ -105,13 +106,13 @@ module _ (from to : ℕ) (ticks answers : List ℤ) (bytes : List ℕ) where
 -- a batch of one is the conversion of that one
 pub batch-of-one : (from to : ℕ) (tick : ℤ) (bytes : List ℕ)
     → let batched = batchOf from to (tick ∷ []) 1 bytes in
-    let answer = convertOf from to (Ticks tick) bytes in
+    let answer = convertOf from to (Ticks tick) [] bytes in
     (batchedNumber batched ≡ answerNumber answer) × (batchedPlace batched ≡ answerPlace answer)
     × (batchedIndex batched ≡ 0) × (batchedSteps batched ≡ answerSteps answer)
 unfolding batchedNumber batchedPlace batchedIndex batchedSteps answerNumber answerPlace answerSteps triedOf
 batch-of-one from to tick bytes =
     rw (batches.batch-tried from to bytes (tick ∷ []) 1 refl (omega arith))
-    (by (convertOf from to (Ticks tick) bytes) (λ epoch n d. conversion-steps from to (Ticks tick) bytes d))
+    (by (convertOf from to (Ticks tick) [] bytes) (λ epoch n d. conversion-steps P.Reading from to (Ticks tick) [] bytes d))
   where
     by : (answer : Answer) {many : ℕ} → ((epoch : Epoch) (n : ℕ) → answer ≡ Answer.Converted epoch n → n ≡ many)
         → let b = earlier answer 0 (Converted many) in
@@ -122,24 +123,21 @@ batch-of-one from to tick bytes =
 
 -- ---- between two ticks that a conversion accepts it accepts every tick
 pub accepted-between : (from to : ℕ) (bytes : List ℕ) (t u v : ℤ)
-    → answerNumber (convertOf from to (Ticks t) bytes) ≡ 0 → answerNumber (convertOf from to (Ticks v) bytes) ≡ 0
-    → t ≤ℤ u → u ≤ℤ v → answerNumber (convertOf from to (Ticks u) bytes) ≡ 0
-unfolding answerNumber
-accepted-between from to bytes t u v early late l m = by (course from to bytes)
+    → answerNumber (convertOf from to (Ticks t) [] bytes) ≡ 0 → answerNumber (convertOf from to (Ticks v) [] bytes) ≡ 0
+    → t ≤ℤ u → u ≤ℤ v → answerNumber (convertOf from to (Ticks u) [] bytes) ≡ 0
+unfolding convertInto convertRead readOf answerNumber
+accepted-between from to bytes t u v early late l m =
+    by (settled P.Reading P.Reading from to true true (judged bytes))
+    (converted P.Reading from to (Ticks t) [] bytes early) (converted P.Reading from to (Ticks v) [] bytes late)
   where
-    walks : (tick : ℤ) → answerNumber (convertOf from to (Ticks tick) bytes) ≡ 0 → {other : Answer}
-        → convertOf from to (Ticks tick) bytes ≡ other → Answered other
-    walks tick zero is = (_, _, sym is ∙ converted from to (Ticks tick) bytes zero)
+    entry : ℤ → Answer
+    entry tick = betweenOf (named from) (named to) (inRange tick) (tableIn bytes) (coefficientsIn bytes)
 
-    by : Course from to bytes (λ reading. convertOf from to reading bytes)
-        → answerNumber (convertOf from to (Ticks u) bytes) ≡ 0
-    by (from-refused f is) = apart (walks t early (is (Ticks t)) .2)
-    by (to-refused f g is) = apart (walks t early (is (Ticks t)) .2)
-    by (table-refused o r j is) = apart (walks t early (is (Ticks t)) .2)
-    by (walking is) =
-        let within = entry-within (tableIn bytes) (coefficientsIn bytes) (named from) (named to) (bytes-held bytes) t u v
-        (walks t early (is (Ticks t))) (walks v late (is (Ticks v))) l m in
-        ap answerNumber (is (Ticks u) ∙ within .2)
+    by : (check : Check) {a b : Epoch} {n k : ℕ} → answering check (entry t) ≡ Answer.Converted a n
+        → answering check (entry v) ≡ Answer.Converted b k → answerNumber (answering check (entry u)) ≡ 0
+    by passes e d =
+        ap answerNumber (entry-within (tableIn bytes) (coefficientsIn bytes) (named from) (named to) (bytes-held bytes) t u v (_, _, e) (_, _, d) l m .2)
+    by (refuses refusal) e d = apart e
 
 -- ---- 'A path that doesn't cross never looks at the table'
 same-tried : {entry entry' : ℤ → Answer} → ((tick : ℤ) → entry tick ≡ entry' tick) → (many index : ℕ) (ticks : List ℤ)
@@ -159,7 +157,7 @@ pub batch-unseen : (from to : ℕ) (ticks answers : List ℤ) (bytes bytes' : Li
 unfolding batchOf settled batchInto
 batch-unseen from to ticks answers bytes bytes' c =
     let entries = same-tried
-    (λ tick. between-unseen (named from) (named to) c (readOf (Ticks tick)) (tableIn bytes) (tableIn bytes') (coefficientsIn bytes) (coefficientsIn bytes'))
+    (λ tick. between-unseen (named from) (named to) c (inRange tick) (tableIn bytes) (tableIn bytes') (coefficientsIn bytes) (coefficientsIn bytes'))
     (steps (named from) (named to)) 0 ticks in
     let same : batchOf from to ticks (length answers) bytes ≡ batchOf from to ticks (length answers) bytes' = rw (c, entries) in
-    (same, rw (same, same-map (λ tick. ap answerTick (table-unseen from to (Ticks tick) bytes bytes' c)) ticks))
+    (same, rw (same, same-map (λ tick. ap answerTick (table-unseen from to (Ticks tick) [] bytes bytes' c)) ticks))

@@ -12,6 +12,7 @@ use Rattle.granule.specs.declared.Units.{Units}
 use Rattle.image.specs.Image.{howMany}
 use Rattle.scales.proofs as scales
 use Rattle.linear.proofs as linear
+use Rattle.utc.proofs as utc
 use Rattle.granule.proofs as granule
 use Rattle.words.proofs as words
 use Rattle.form.proofs as form
@@ -23,6 +24,7 @@ use Rattle.ephemeris.proofs as ephemeris
 use Rattle.dates.proofs as dates
 use Rattle.walk.proofs as walk
 use Rattle.desk.proofs as desk
+use Rattle.written.proofs as written
 use Rattle.entries.proofs as entries
 use Rattle.filling.proofs as filling
 use Rattle.batch.proofs as batches
@@ -102,6 +104,16 @@ along = equation
 
 pub back : One linear.steps.back.Reads.Learnt
 back = equation
+
+-- ---- utc
+pub is-right : One utc.leaps.is_right.Reads.Learnt
+is-right = equation
+
+pub utc-read : One utc.reading.read.Reads.Learnt
+utc-read = equation
+
+pub utc-write : One utc.writing.write.Reads.Learnt
+utc-write = equation
 
 -- ---- granule
 pub value : One granule.value.Reads.Learnt
@@ -214,6 +226,9 @@ tdb-to-tt = equation
 pub ranged : One dates.reading.ranged.Reads.Learnt
 ranged = equation
 
+pub purpose-of : One dates.reading.purpose_of.Reads.Learnt
+purpose-of = equation
+
 pub tick-of : One dates.reading.tick_of.Reads.Learnt
 tick-of = equation
 
@@ -240,11 +255,18 @@ asked-of = equation
 pub between : One desk.conversion.between.Reads.Learnt
 between = equation
 
+pub convert-into : One desk.conversion.convert_into.Reads.Learnt
+convert-into = equation
+
 pub convert : One desk.conversion.convert.Reads.Learnt
 convert = equation
 
 pub convert-judged : One desk.conversion.convert_judged.Reads.Learnt
 convert-judged = equation
+
+-- ---- written
+pub write-utc : One written.write_utc.Reads.Learnt
+write-utc = equation
 
 -- ---- entries
 pub tried : One entries.trying.tried.Reads.Learnt
@@ -302,5 +324,11 @@ colliedash-read-table = both (λ κs a r s p. (p .answer, p .list))
 pub colliedash-write-table : OneInto hosts.tables.colliedash_write_table.Reads.Learnt (λ κs s. s .1 .1 .1 .1 .1 .0 .now)
 colliedash-write-table = both (λ κs a r s p. (p .answer, p .buffer))
 
-pub colliedash-write-date : One hosts.written.colliedash_write_date.Reads.Learnt
+pub colliedash-convert-utc : One hosts.leaps.colliedash_convert_utc.Reads.Learnt
+colliedash-convert-utc = equation
+
+pub colliedash-write-utc : One hosts.leaps.colliedash_write_utc.Reads.Learnt
+colliedash-write-utc = equation
+
+pub colliedash-write-date : One hosts.date.colliedash_write_date.Reads.Learnt
 colliedash-write-date = equation

@@ -17,7 +17,7 @@ use Rattle.blocks.specs.Judging.{judged}
 use Rattle.blocks.proofs.Accepting.{accepted-table}
 use Rattle.ephemeris.proofs.Promises.{table-distance}
 use Rattle.dates.specs.declared.reading.Reading.{Reading}
-use Rattle.dates.specs.Answers.{readTick}
+use Rattle.scales.specs.Answers.{readTick}
 use Rattle.dates.specs.Readings.{readOf}
 use Rattle.scales.specs.declared.answer.Stepped.the-variants.{Reached}
 use Rattle.scales.proofs.Reached.{nowhere, same-tick}
@@ -32,6 +32,7 @@ use Rattle.promises.specs.Words.{startOf}
 use Rattle.promises.proofs.Exactly.{epochOf}
 use Rattle.promises.proofs.Walks.{one-step, bytes-held}
 use Rattle.promises.proofs.Answers.{walked-from}
+use Rattle.scales.specs.declared.scale.Purpose.the-variants as P
 
 -- the step over what the bytes hold
 module _ (bytes : List ℕ) (t : ℤ) (u : Epoch) where
@@ -50,17 +51,17 @@ module _ (bytes : List ℕ) (t : ℤ) (u : Epoch) where
 -- ---- TT to TDB: between a code of TT (3, or 0) and the code of TDB (5), of any reading over any
 -- table bytes. With t the tick that was read and u = 65536·H^n the answer is within 33/64 tick of t
 -- − (exact sum):  64·|u·TDB − (u·t − H^n·sum)| ≤ 33·u
-pub distance : (from to : ℕ) (reading : Reading) (bytes : List ℕ) → named from ≡ Tt → named to ≡ Tdb
-    → let answer = convertOf from to reading bytes in
-    let t = readTick (readOf reading) in
+pub distance : (from to : ℕ) (reading : Reading) (leaps : List ℤ) (bytes : List ℕ) → named from ≡ Tt → named to ≡ Tdb
+    → let answer = convertOf from to reading leaps bytes in
+    let t = readTick (readOf leaps reading) in
     let u = denominatorIn bytes in
     answerNumber answer ≡ 0
     → 64 * natAbs (pos u *ℤ answerTick answer -ℤ (pos u *ℤ t -ℤ exactSumIn bytes t)) ≤ 33 * u
-distance from to reading bytes starts ends accepted =
+distance from to reading leaps bytes starts ends accepted =
     let step : Step = Along Edge.Table in
     let single : path (named from) (named to) ≡ step ∷ [] = rw (starts, ends) in
-    let answer = convertOf from to reading bytes in
-    let t = readTick (readOf reading) in
+    let answer = convertOf from to reading leaps bytes in
+    let t = readTick (readOf leaps reading) in
     near bytes t (epochOf answer) (judged bytes) refl
     (one-step (tableIn bytes) (coefficientsIn bytes) step (path (named from) (named to)) single (startOf from t) (epochOf answer) (answerSteps answer)
-    (walked-from from to reading bytes accepted))
+    (walked-from P.Reading from to reading leaps bytes accepted))

@@ -8,10 +8,10 @@ use Prim.Native.Nat.{ℕ}
 use native.Mathlib.Omega.{arith}
 use lib.Dec.{eqb}
 use lib.IntN.{ℤ}
-use Rattle.numbers.specs.Tests.{Test, only, verdict, AllPass, ToldExactly}
+use Rattle.numbers.specs.Tests.{Test, only, verdict, ToldExactly}
 use Rattle.numbers.specs.Tests.{verdicts, ToldExactlyOf}
 use Rattle.numbers.proofs.Verdicts.{all-none}
-use Rattle.numbers.proofs.Exactly.{found, unlike, same-told, numbered-both, told-exactly, all-none-of, lists-exactly}
+use Rattle.numbers.proofs.Exactly.{found, unlike, same-told, numbered-both, told-exactly, all-none-of, lists-exactly, Numbered}
 use Rattle.scales.specs.declared.answer.Answer.{Answer}
 use Rattle.scales.specs.declared.answer.Answer.the-variants.{Converted, Refused}
 use Rattle.scales.specs.declared.answer.Epoch.{Epoch}
@@ -19,36 +19,49 @@ use Rattle.scales.specs.declared.scale.Scale.{Scale}
 use Rattle.scales.specs.declared.scale.Purpose.the-variants as P
 use Rattle.scales.specs.Answers.{answerNumber, answerPlace, answerScale, answerTick, answerSteps}
 use Rattle.scales.specs.Scales.{named}
-use Rattle.dates.specs.declared.reading.Read.{Read}
-use Rattle.dates.specs.declared.reading.Read.the-variants as R
+use Rattle.scales.specs.declared.answer.Read.{Read}
+use Rattle.scales.specs.declared.answer.Read.the-variants as R
 use Rattle.dates.specs.declared.reading.Reading.{Reading}
-use Rattle.dates.specs.declared.reading.Reading.the-variants.{TwoPart, SinceJ2000, Ticks}
-use Rattle.dates.specs.Answers.{readNumber, readPlace}
+use Rattle.dates.specs.declared.reading.Reading.the-variants.{TwoPart, SinceJ2000, Ticks, Utc}
+use Rattle.scales.specs.Answers.{readNumber, readPlace}
 use Rattle.dates.specs.Readings.{readOf}
-use Rattle.desk.specs.Conversion.{started, convertOf}
+use Rattle.desk.specs.Conversion.{started, convertOf, convertInto}
 use Rattle.entries.specs.declared.batched.Batched.{Batched}
 use Rattle.entries.specs.declared.batched.Batched.the-variants as B
 use Rattle.entries.specs.Batched.{batchedNumber, batchedPlace, batchedIndex, batchedSteps}
 use Rattle.batch.specs.Batch.{batchOf}
-use Rattle.promises.specs.Tests.{codeTests, crossedTests, readingTests, conversionTests, batchTests}
+use Rattle.promises.specs.Tests.{codeTests, crossedTests, readingTests, conversionTests, batchTests, testsInto}
 use Rattle.promises.specs.Words.{Gives}
 use Rattle.promises.proofs.Told.{ofAnswer, ofBatched, reading-told, conversion-told, batch-told}
 use Rattle.promises.proofs.Told.{crossed-numbered, reading-numbered, walk-numbered, entries-numbered}
+use Rattle.scales.specs.declared.scale.Purpose.{Purpose}
 
 -- ---- of conversions and of batches
-pub conversion-exactly : (from to : ℕ) (reading : Reading) (bytes : List ℕ)
-    → let answer = convertOf from to reading bytes in
-    ToldExactly (conversionTests from to reading bytes) (answerNumber answer) (answerPlace answer)
+pub into-numbered : (writes : Purpose) (from to : ℕ) (reading : Reading) (leaps : List ℤ) (bytes : List ℕ)
+    → Numbered (testsInto writes from to reading leaps bytes)
+into-numbered writes from to reading leaps bytes =
+    let rest = numbered-both (crossedTests from to bytes) _ (crossed-numbered from to bytes) (walk-numbered from to reading leaps bytes) in
+    (omega arith, (omega arith, (omega arith, (omega arith, rest))))
+
+pub into-exactly : (writes : Purpose) (from to : ℕ) (reading : Reading) (leaps : List ℤ) (bytes : List ℕ)
+    → let answer = convertInto writes from to reading leaps bytes in
+    ToldExactly (testsInto writes from to reading leaps bytes) (answerNumber answer) (answerPlace answer)
 unfolding answerNumber answerPlace
-conversion-exactly from to reading bytes =
-    told-exactly (conversionTests from to reading bytes) _ _
-    (omega arith, (omega arith, numbered-both (crossedTests from to bytes) _ (crossed-numbered from to bytes) (walk-numbered from to reading bytes)))
-    (conversion-told (λ n p. (n, p)) (0, 0) from to reading bytes ∙ both (convertOf from to reading bytes))
+into-exactly writes from to reading leaps bytes =
+    told-exactly (testsInto writes from to reading leaps bytes) _ _ (into-numbered writes from to reading leaps bytes)
+    (conversion-told (λ n p. (n, p)) (0, 0) writes from to reading leaps bytes
+    ∙ both (convertInto writes from to reading leaps bytes))
   where
     both : (answer : Answer)
         → _≡_ {A = ℕ × ℕ} (ofAnswer (λ n p. (n, p)) (0, 0) answer) (answerNumber answer, answerPlace answer)
     both (Converted epoch many) = refl
     both (Refused refusal) = refl
+
+-- into ticks
+pub conversion-exactly : (from to : ℕ) (reading : Reading) (leaps : List ℤ) (bytes : List ℕ)
+    → let answer = convertOf from to reading leaps bytes in
+    ToldExactly (conversionTests from to reading leaps bytes) (answerNumber answer) (answerPlace answer)
+conversion-exactly from to reading leaps bytes = into-exactly P.Reading from to reading leaps bytes
 
 pub batch-exactly : (from to : ℕ) (ticks : List ℤ) (many : ℕ) (bytes : List ℕ)
     → let answer = batchOf from to ticks many bytes in
@@ -67,22 +80,23 @@ batch-exactly from to ticks many bytes =
     all (B.Refused refusal index) = refl
 
 -- ---- of a reading by itself
-pub reading-exactly : (reading : Reading)
-    → ToldExactly (readingTests reading) (readNumber (readOf reading)) (readPlace (readOf reading))
+pub reading-exactly : (leaps : List ℤ) (reading : Reading)
+    → ToldExactly (readingTests leaps reading) (readNumber (readOf leaps reading)) (readPlace (readOf leaps reading))
 unfolding readNumber readPlace verdict
-reading-exactly reading =
-    told-exactly (readingTests reading) _ _ (reading-numbered reading)
+reading-exactly leaps reading =
+    told-exactly (readingTests leaps reading) _ _ (reading-numbered leaps reading)
     (ap (verdict (λ n p. (n, p)) (0, 0)) (sym (no-more reading))
-    ∙ reading-told (λ n p. (n, p)) (0, 0) accepts reading [] refl
-    ∙ both (readOf reading))
+    ∙ reading-told (λ n p. (n, p)) (0, 0) accepts leaps reading [] refl
+    ∙ both (readOf leaps reading))
   where
     accepts : ℤ → Answer
     accepts tick = Converted (record { scale = named 0; tick = tick }) 0
 
-    no-more : (reading : Reading) → readingTests reading ++ [] ≡ readingTests reading
+    no-more : (reading : Reading) → readingTests leaps reading ++ [] ≡ readingTests leaps reading
     no-more (TwoPart first second) = refl
     no-more (SinceJ2000 seconds) = refl
     no-more (Ticks tick) = refl
+    no-more (Utc day ticks) = refl
 
     both : (read : Read)
         → _≡_ {A = ℕ × ℕ} (ofAnswer (λ n p. (n, p)) (0, 0) (started accepts read)) (readNumber read, readPlace read)
@@ -93,21 +107,20 @@ reading-exactly reading =
 abbrev pub epochOf : Answer → Epoch
 epochOf answer = record { scale = answerScale answer; tick = answerTick answer }
 
-pub converted : (from to : ℕ) (reading : Reading) (bytes : List ℕ)
-    → let answer = convertOf from to reading bytes in
+pub converted : (writes : Purpose) (from to : ℕ) (reading : Reading) (leaps : List ℤ) (bytes : List ℕ)
+    → let answer = convertInto writes from to reading leaps bytes in
     answerNumber answer ≡ 0 → answer ≡ Converted (epochOf answer) (answerSteps answer)
 unfolding answerNumber answerScale answerTick answerSteps
-converted from to reading bytes zero = by (convertOf from to reading bytes) refl
+converted writes from to reading leaps bytes zero = by (convertInto writes from to reading leaps bytes) refl
   where
-    passed : AllPass (conversionTests from to reading bytes)
-    passed = conversion-exactly from to reading bytes .accepted zero
-
-    by : (answer : Answer) → convertOf from to reading bytes ≡ answer
+    by : (answer : Answer) → convertInto writes from to reading leaps bytes ≡ answer
         → answer ≡ Converted (epochOf answer) (answerSteps answer)
     by (Converted epoch many) e = refl
     by (Refused refusal) e =
-        let told : none ≡ ofAnswer found none (convertOf from to reading bytes) =
-        sym (all-none found none (conversionTests from to reading bytes) passed) ∙ conversion-told found none from to reading bytes in
+        let tests = testsInto writes from to reading leaps bytes in
+        let told : none ≡ ofAnswer found none (convertInto writes from to reading leaps bytes) =
+        sym (all-none found none tests (into-exactly writes from to reading leaps bytes .accepted zero))
+        ∙ conversion-told found none writes from to reading leaps bytes in
         unlike (rw e at told)
 
 -- and the other way
@@ -135,7 +148,7 @@ batch-converted from to ticks many bytes zero = by (batchOf from to ticks many b
 -- an empty batch: what is settled before the entries, with index 0
 pub empty-exactly : (from to many : ℕ) (bytes : List ℕ)
     → let batched = batchOf from to [] many bytes in
-    ToldExactly (codeTests P.Batch from to ++ only 8 0 (eqb 0 many) ∷ crossedTests from to bytes)
+    ToldExactly (codeTests P.Batch P.Batch from to ++ only 8 0 (eqb 0 many) ∷ crossedTests from to bytes)
     (batchedNumber batched) (batchedPlace batched)
     × (batchedIndex batched ≡ 0)
 unfolding verdicts batchedNumber batchedPlace batchedIndex
@@ -146,7 +159,7 @@ empty-exactly from to many bytes = (
 )
   where
     tests : List Test
-    tests = codeTests P.Batch from to ++ only 8 0 (eqb 0 many) ∷ crossedTests from to bytes
+    tests = codeTests P.Batch P.Batch from to ++ only 8 0 (eqb 0 many) ∷ crossedTests from to bytes
 
     both : (batched : Batched)
         → _≡_ {A = ℕ × ℕ} (ofBatched (λ n p i. (n, p)) (0, 0) batched) (batchedNumber batched, batchedPlace batched)

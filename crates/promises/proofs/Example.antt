@@ -9,9 +9,9 @@ use Rattle.scales.specs.Answers.{keptIn}
 use Rattle.scales.specs.Linear.{exact, nearestTick}
 use Rattle.scales.specs.Rows.{lineStep}
 use Rattle.scales.specs.Tick.{isValid}
-use Rattle.dates.specs.Readings.{inRange, readOf}
+use Rattle.dates.specs.Readings.{inRange}
 use Rattle.desk.specs.Order.{settled}
-use Rattle.desk.specs.Conversion.{betweenOf, convertJudged}
+use Rattle.desk.specs.Conversion.{betweenOf, convertRead}
 use Rattle.walk.specs.Walk.{walkOf}
 use Rattle.line.specs.Numbers.{isDigit, allDigits, valueFrom, valueOf, fitsSigned, fitting, digitsNumber, numberIn}
 use Rattle.line.specs.Lines.{fields, lineRead}
@@ -22,7 +22,7 @@ use Rattle.promises.specs.Example.{pageInput, pageOutput}
 
 pub page-answered : (bytes : List ℕ) → ticklineOf bytes pageInput ≡ pageOutput
 unfolding ticklineOf linesOf readFrom lineRead fields numberIn digitsNumber fitting fitsSigned valueOf valueFrom allDigits isDigit
-    printedLines printedFor convertJudged settled betweenOf readOf inRange isValid walkOf lineStep keptIn nearestTick exact nearest floorDiv
+    printedLines printedFor convertRead settled betweenOf inRange isValid walkOf lineStep keptIn nearestTick exact nearest floorDiv
     printed answerText refusedText integerText decimalWithin
 page-answered bytes =
     rw (

@@ -25,7 +25,7 @@ use Rattle.scales.specs.Answers.{keptIn}
 use Rattle.scales.specs.Rows.{lineStep, begin, end}
 use Rattle.scales.proofs.Every.{every-scale, every-step}
 use Rattle.dates.specs.declared.reading.Reading.the-variants.{Ticks}
-use Rattle.dates.specs.Readings.{inRange, readOf}
+use Rattle.dates.specs.Readings.{inRange}
 use Rattle.scales.specs.declared.answer.Stepped.{Stepped}
 use Rattle.scales.specs.declared.answer.Stepped.the-variants.{Reached}
 use Rattle.walk.specs.declared.kept.Kept.the-variants.{Table}
@@ -81,11 +81,11 @@ module _ (at : Scale → ℤ) (m : Moment at) where
       rw (← l .0, moved, n) (walks more (end step) to (suc done) (l .1))
 
   converts : (from to : ℕ) → from ≤ highestCode P.Reading → to ≤ highestCode P.Reading
-      → convertOf from to (Ticks (at (named from))) knownBytes
+      → convertOf from to (Ticks (at (named from))) [] knownBytes
       ≡ Converted (record { scale = named to; tick = at (named to) }) (steps (named from) (named to))
-  unfolding betweenOf readOf inRange
+  unfolding betweenOf inRange
   converts from to f t =
-      between-named from to (Ticks (at (named from))) knownBytes knownTable f t known-judged
+      between-named from to (at (named from)) knownBytes knownTable f t known-judged
       ∙ rw (m .valid (named from), known-held, ← zero-add (steps (named from) (named to)))
       (walks (path (named from) (named to)) (named from) (named to) 0 (leads (named from) (named to)))
 
@@ -93,8 +93,8 @@ module _ (at : Scale → ℤ) (m : Moment at) where
 -- are converted, and to different answers
 pub two-answers : (from to : ℕ) → from ≤ highestCode P.Reading → to ≤ highestCode P.Reading
     → let many = steps (named from) (named to) in
-    Gives (convertOf from to (Ticks (first (named from))) knownBytes) (named to) (first (named to)) many
-    × Gives (convertOf from to (Ticks (last (named from))) knownBytes) (named to) (last (named to)) many
+    Gives (convertOf from to (Ticks (first (named from))) [] knownBytes) (named to) (first (named to)) many
+    × Gives (convertOf from to (Ticks (last (named from))) [] knownBytes) (named to) (last (named to)) many
     × (first (named to) <ℤ last (named to))
 two-answers from to f t = (
   gives _ _ _ _ (converts first first-moment from to f t),

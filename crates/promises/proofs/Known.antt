@@ -29,13 +29,13 @@ use Rattle.ephemeris.specs.Steps.{tdbStep, ttStep}
 use Rattle.ephemeris.specs.Table.{lastPlace, tickAt, isInside, placeOf, granuleOf, placeIn, tableDelay, tdbOf, tdbAt, earliestPlace, ttOf}
 use Rattle.ephemeris.specs.Table.{isCovered}
 use Rattle.ephemeris.proofs.Search.{earliest-is}
-use Rattle.dates.specs.Answers.{readNumber, readTick}
+use Rattle.scales.specs.Answers.{readNumber, readTick}
 use Rattle.dates.specs.Doubles.{numerator, denominator, beyond}
-use Rattle.dates.specs.Readings.{inRange, readOf}
+use Rattle.dates.specs.Readings.{inRange, readOf, readOfParts}
 use Rattle.dates.specs.Ticks as ticks
 use Rattle.desk.specs.Order.{settled}
 use Rattle.opened.specs.Opened.{coefficientsIn}
-use Rattle.desk.specs.Conversion.{betweenOf, convertJudged, convertOf}
+use Rattle.desk.specs.Conversion.{betweenOf, convertRead, convertInto}
 use Rattle.walk.specs.Walk.{walkOf}
 use Rattle.desk.specs.Conversion.{heldBy}
 use Rattle.promises.specs.Known.{knownTable, knownCoefficients, knownBytes, AllHold, rows}
@@ -118,7 +118,8 @@ _and_ : {A B : Type 0} → A → B → A × B
 a and b = (a, b)
 
 pub known : AllHold rows
-unfolding convertOf convertJudged settled betweenOf readOf inRange walkOf lineStep keptIn isValid nearestTick exact nearest floorDiv ticks.tickOfDate
+unfolding convertInto convertRead settled betweenOf readOf readOfParts inRange walkOf lineStep keptIn isValid nearestTick exact nearest floorDiv
+    ticks.tickOfDate
     ticks.ticksRounded numerator denominator beyond readNumber readTick
 known =
     -- P1 to P6

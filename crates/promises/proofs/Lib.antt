@@ -2,7 +2,7 @@
 -- promise stands:
 --
 -- Demand 3, the three statements: `Distance` (distance), `Order` (in-order), `ThereAndBack`
--- (there-and-back).
+-- (there-and-back). Of UTC, order and there and back: `Utc`.
 --
 -- Demand 2. The known values P1 to P13, one table and one statement: `Known` (known). The page's
 -- example of lines: `Example` (page-answered). What an accepted answer carries: `Answers`
@@ -33,6 +33,7 @@ pub mod Order
 pub mod Returning
 pub mod ThereAndBack
 pub mod Distance
+pub mod Utc
 pub mod Reasons
 pub mod Refusals
 pub mod Batches

@@ -6,7 +6,7 @@ use borrow.Author.Tests.{le-leb}
 use mathlib.Core.Path.{_≡_, refl, sym, ap}
 use mathlib.Core.Bool.{true}
 use mathlib.Core.List.{List, []}
-use Prim.Native.Nat.{ℕ, suc, _≤_, _<_}
+use Prim.Native.Nat.{ℕ, suc, _≤_, _<_, zero-le}
 use native.Mathlib.Omega.{arith}
 use lib.IntN.{ℤ, pos}
 use lib.ListN.{length, getD}
@@ -16,17 +16,17 @@ use Rattle.scales.specs.declared.refusal.Refusal.{Refusal}
 use Rattle.scales.specs.declared.scale.Named.the-variants as N
 use Rattle.scales.specs.declared.scale.Purpose.the-variants as P
 use Rattle.scales.specs.Answers.{answerNumber, answerPlace, answerTick, answerSteps}
-use Rattle.scales.specs.Scales.{highestCode, named, scaleOf}
+use Rattle.scales.specs.Scales.{highestCode, named, scaleOf, lowestCode}
 use Rattle.blocks.specs.declared.answer.Judged.{Judged}
 use Rattle.blocks.specs.Judging.{judged}
 use Rattle.opened.specs.Opened.{coefficientsIn}
 use Rattle.dates.specs.declared.reading.Reading.the-variants.{Ticks}
-use Rattle.dates.specs.Readings.{readOf}
+use Rattle.dates.specs.Readings.{readOf, inRange}
 use Rattle.desk.specs.declared.asked.Asked.the-variants as Q
 use Rattle.desk.specs.Order.{settled}
-use Rattle.desk.specs.Conversion.{convertJudged, convertOf}
+use Rattle.desk.specs.Conversion.{convertOf, convertRead, convertInto}
 use Rattle.desk.specs.Inner.{askedOf}
-use Rattle.desk.proofs.Asking.{by-asked, from-refused, to-refused}
+use Rattle.desk.proofs.Asking.{of-tick, from-refused, to-refused}
 use Rattle.line.specs.declared.reading.Line.{Line}
 use Rattle.line.specs.declared.reading.Line.the-variants.{Numbers, Refused}
 use Rattle.line.specs.Answers.{lineNumber, linePlace, lineFrom, lineTo, lineTick}
@@ -85,7 +85,7 @@ printed-back to tick steps line a b c = rw (line-reads-back to tick steps line a
 code-named : (code place : ℕ) → code ≤ highestCode P.Line
     → scaleOf P.Line (codeOf (pos code)) place ≡ N.Scale (named code)
 code-named code place h =
-    rw (code-inside code (omega arith), le-leb code (highestCode P.Line) h)
+    rw (code-inside code (omega arith), le-leb (lowestCode P.Line) code zero-le, le-leb code (highestCode P.Line) h)
 
 -- ---- a line's answer over judged table bytes and the coefficients that they hold
 module _ (table : Judged) (coefficients : List ℤ) (text : List ℕ) (line : ℕ) where
@@ -103,10 +103,11 @@ module _ (table : Judged) (coefficients : List ℤ) (text : List ℕ) (line : �
       by (Refused refusal) e h = rw (numbering.not-understood text line refusal e) (refl, refl)
 
   asked-refused : (from to tick : ℤ) → read text line ≡ Numbers from to tick → (refusal : Refusal)
-      → Q.Refused refusal ≡ askedOf P.Line (codeOf from) (codeOf to) true → answer ≡ A.Refused refusal
+      → Q.Refused refusal ≡ askedOf P.Line P.Line (codeOf from) (codeOf to) true true
+      → answer ≡ A.Refused refusal
   asked-refused from to tick understood refusal is =
       rw understood
-      (sym (by-asked P.Line (codeOf from) (codeOf to) (Ticks tick) table coefficients (Q.Refused refusal) (readOf (Ticks tick)) (sym is) refl))
+      (sym (of-tick P.Line (codeOf from) (codeOf to) tick table coefficients (Q.Refused refusal) (inRange tick) (sym is) refl))
 
   -- one that is understood is 1 where its from is no code, else where its to is none
   module _ (zero : lineNumber (read text line) ≡ 0) where
@@ -116,7 +117,7 @@ module _ (table : Judged) (coefficients : List ℤ) (text : List ℕ) (line : �
     line-from-refused outside =
         rw
         (asked-refused _ _ _ (understood text line zero) _
-        (from-refused P.Line _ _ true _ (refused-outside (lineFrom (read text line)) 0 outside)))
+        (from-refused P.Line P.Line _ _ true true _ (refused-outside (lineFrom (read text line)) 0 outside)))
         (refl, refl)
 
     pub line-to-refused : (code : ℕ) → lineFrom (read text line) ≡ pos code → code ≤ highestCode P.Line
@@ -125,7 +126,7 @@ module _ (table : Judged) (coefficients : List ℤ) (text : List ℕ) (line : �
     line-to-refused code is inside outside =
         rw
         (asked-refused _ _ _ (understood text line zero) _
-        (to-refused P.Line _ _ true (named code) (rw is (code-named code 0 inside)) _ (refused-outside (lineTo (read text line)) 1 outside)))
+        (to-refused P.Line P.Line _ _ true true (named code) (rw is (code-named code 0 inside)) _ (refused-outside (lineTo (read text line)) 1 outside)))
         (refl, refl)
 
   -- what is printed for a refusal: its number, whichever it is
@@ -145,8 +146,8 @@ module _ (bytes text : List ℕ) (line : ℕ) where
 
   as-asked : (from to : ℕ) (tick : ℤ) → read text line ≡ Numbers (pos from) (pos to) tick
       → from ≤ highestCode P.Line → to ≤ highestCode P.Line
-      → answerOver (read text line) ≡ convertOf from to (Ticks tick) bytes
-  unfolding convertOf convertJudged settled
+      → answerOver (read text line) ≡ convertOf from to (Ticks tick) [] bytes
+  unfolding convertInto convertRead settled readOf
   as-asked from to tick understood f t = rw (understood, code-inside from (omega arith), code-inside to (omega arith))
 
   -- any other is answered as the conversion that it asks for: what is promised of conversions holds
@@ -154,7 +155,7 @@ module _ (bytes text : List ℕ) (line : ℕ) where
   pub line-as-conversion : (from to : ℕ) → lineNumber (read text line) ≡ 0
       → lineFrom (read text line) ≡ pos from → lineTo (read text line) ≡ pos to
       → from ≤ highestCode P.Line → to ≤ highestCode P.Line
-      → answerOver (read text line) ≡ convertOf from to (Ticks (lineTick (read text line))) bytes
+      → answerOver (read text line) ≡ convertOf from to (Ticks (lineTick (read text line))) [] bytes
   line-as-conversion from to zero from-is to-is f t =
       as-asked from to (lineTick (read text line)) (rw (from-is, to-is) at (understood text line zero)) f t
 
@@ -163,13 +164,13 @@ module _ (bytes text : List ℕ) (line : ℕ) where
       answerNumber answer ≡ 0
       → printedFor (judged bytes) (coefficientsIn bytes) (read text line)
       ≡ answerLine (lineTo (read text line)) (answerTick answer) (answerSteps answer)
-  unfolding printedFor convertOf convertJudged settled answerNumber lineTo
+  unfolding printedFor convertInto convertRead settled readOf answerNumber lineTo
   line-accepted-printed zero = by (read text line) refl zero
     where
       by : (is : Line) → lineRead text line ≡ is → answerNumber (answerOver is) ≡ 0
           → printedFor (judged bytes) (coefficientsIn bytes) is
           ≡ answerLine (lineTo is) (answerTick (answerOver is)) (answerSteps (answerOver is))
-      by (Numbers from to tick) e z = ap (lineText to) (converted (codeOf from) (codeOf to) (Ticks tick) bytes z)
+      by (Numbers from to tick) e z = ap (lineText to) (converted P.Reading (codeOf from) (codeOf to) (Ticks tick) [] bytes z)
       by (Refused refusal) e z =
           let nine : refusal .number ≡ 9 = rw (numbering.not-understood text line refusal e) in
           let no : ⊥ = omega arith in

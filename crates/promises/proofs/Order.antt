@@ -13,11 +13,12 @@ use Rattle.scales.specs.Answers.{answerNumber, answerTick, answerSteps}
 use Rattle.scales.specs.Path.{path}
 use Rattle.dates.specs.declared.reading.Reading.{Reading}
 use Rattle.dates.specs.declared.reading.Reading.the-variants.{Ticks}
-use Rattle.dates.specs.Answers.{readTick}
+use Rattle.scales.specs.Answers.{readTick}
 use Rattle.dates.specs.Readings.{readOf}
 use Rattle.walk.specs.declared.kept.Kept.{Kept}
 use Rattle.opened.specs.Opened.{coefficientsIn}
-use Rattle.desk.specs.Conversion.{convertOf}
+use Rattle.scales.specs.declared.scale.Purpose.{Purpose}
+use Rattle.desk.specs.Conversion.{convertInto, convertOf}
 use Rattle.walk.specs.Inner.{Held}
 use Rattle.walk.specs.Walk.{stepOf, walkOf}
 use Rattle.walk.proofs.OneStep.{step-order}
@@ -28,6 +29,7 @@ use Rattle.promises.specs.Words.{startOf}
 use Rattle.promises.proofs.Exactly.{epochOf}
 use Rattle.promises.proofs.Walks.{came-to, bytes-held}
 use Rattle.promises.proofs.Answers.{walked-from, reading-accepted, ticks-read}
+use Rattle.scales.specs.declared.scale.Purpose.the-variants as P
 
 -- ---- along a walk
 module _ (kept : Kept) (cs : List ℤ) (h : Held kept cs) (e f : Epoch) (m n : ℕ) where
@@ -41,24 +43,35 @@ module _ (kept : Kept) (cs : List ℤ) (h : Held kept cs) (e f : Epoch) (m n : �
       let ordered = step-order kept cs h step (t .tick) (u .tick) (x .at) (y .at) (x .reached) (y .reached) l in
       walk-order more (suc done) (x .at) (y .at) (x .onwards) (y .onwards) ordered
 
--- ---- Of two readings of the first scale, converted by the same codes over the same table bytes
--- and both accepted, the one whose tick is the earlier never comes out later.
-pub readings-in-order : (from to : ℕ) (bytes : List ℕ) (early late : Reading)
-    → answerNumber (convertOf from to early bytes) ≡ 0 → answerNumber (convertOf from to late bytes) ≡ 0
-    → readTick (readOf early) ≤ℤ readTick (readOf late)
-    → answerTick (convertOf from to early bytes) ≤ℤ answerTick (convertOf from to late bytes)
-readings-in-order from to bytes early late a b l =
-    let one = convertOf from to early bytes in
-    let other = convertOf from to late bytes in
+-- ---- Of two readings of the first scale, converted by the same codes over the same list and table
+-- bytes and both accepted, the one whose tick is the earlier never comes out later, whatever the
+-- second code is read for
+pub into-in-order : (writes : Purpose) (from to : ℕ) (leaps : List ℤ) (bytes : List ℕ) (early late : Reading)
+    → answerNumber (convertInto writes from to early leaps bytes) ≡ 0
+    → answerNumber (convertInto writes from to late leaps bytes) ≡ 0
+    → readTick (readOf leaps early) ≤ℤ readTick (readOf leaps late)
+    → answerTick (convertInto writes from to early leaps bytes)
+    ≤ℤ answerTick (convertInto writes from to late leaps bytes)
+into-in-order writes from to leaps bytes early late a b l =
+    let one = convertInto writes from to early leaps bytes in
+    let other = convertInto writes from to late leaps bytes in
     walk-order (tableIn bytes) (coefficientsIn bytes) (bytes-held bytes) (epochOf one) (epochOf other) (answerSteps one) (answerSteps other)
-    (path (named from) (named to)) 0 (startOf from (readTick (readOf early))) (startOf from (readTick (readOf late)))
-    (walked-from from to early bytes a) (walked-from from to late bytes b) l
+    (path (named from) (named to)) 0 (startOf from (readTick (readOf leaps early))) (startOf from (readTick (readOf leaps late)))
+    (walked-from writes from to early leaps bytes a) (walked-from writes from to late leaps bytes b) l
+
+-- so into ticks
+pub readings-in-order : (from to : ℕ) (leaps : List ℤ) (bytes : List ℕ) (early late : Reading)
+    → answerNumber (convertOf from to early leaps bytes) ≡ 0 → answerNumber (convertOf from to late leaps bytes) ≡ 0
+    → readTick (readOf leaps early) ≤ℤ readTick (readOf leaps late)
+    → answerTick (convertOf from to early leaps bytes) ≤ℤ answerTick (convertOf from to late leaps bytes)
+readings-in-order = into-in-order P.Reading
 
 -- so of two ticks t and u
-pub in-order : (from to : ℕ) (bytes : List ℕ) (t u : ℤ) → answerNumber (convertOf from to (Ticks t) bytes) ≡ 0
-    → answerNumber (convertOf from to (Ticks u) bytes) ≡ 0 → t ≤ℤ u
-    → answerTick (convertOf from to (Ticks t) bytes) ≤ℤ answerTick (convertOf from to (Ticks u) bytes)
+pub in-order : (from to : ℕ) (bytes : List ℕ) (t u : ℤ) → answerNumber (convertOf from to (Ticks t) [] bytes) ≡ 0
+    → answerNumber (convertOf from to (Ticks u) [] bytes) ≡ 0 → t ≤ℤ u
+    → answerTick (convertOf from to (Ticks t) [] bytes) ≤ℤ answerTick (convertOf from to (Ticks u) [] bytes)
+unfolding readOf
 in-order from to bytes t u a b l =
-    let early = ticks-read t (reading-accepted from to (Ticks t) bytes a) in
-    let late = ticks-read u (reading-accepted from to (Ticks u) bytes b) in
-    readings-in-order from to bytes (Ticks t) (Ticks u) a b (rw (early, late) l)
+    let early = ticks-read t (reading-accepted P.Reading from to (Ticks t) [] bytes a) in
+    let late = ticks-read u (reading-accepted P.Reading from to (Ticks u) [] bytes b) in
+    readings-in-order from to [] bytes (Ticks t) (Ticks u) a b (rw (early, late) l)

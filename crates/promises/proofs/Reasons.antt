@@ -1,9 +1,9 @@
 -- Why a conversion is refused: a refused walk ended at one of its steps, and a refused conversion
 -- has one of the page's reasons. Assumes nothing.
 use mathlib.Core.Path.{_≡_, refl, sym, _∙_, ap, subst}
-use mathlib.Core.Bool.{true}
+use mathlib.Core.Bool.{true, false}
 use mathlib.Core.List.{List, [], _∷_, _++_}
-use Prim.Native.Nat.{ℕ, suc, _≤_, _<_}
+use Prim.Native.Nat.{ℕ, suc}
 use lib.IntN.{ℤ}
 use Rattle.scales.specs.declared.answer.Answer.the-variants.{Converted, Refused}
 use Rattle.scales.specs.declared.refusal.Refusal.{Refusal}
@@ -13,23 +13,24 @@ use Rattle.scales.specs.Answers.{answerNumber, answerPlace}
 use Rattle.scales.specs.Path.{path, crosses}
 use Rattle.blocks.specs.declared.answer.Judged.the-variants as J
 use Rattle.blocks.specs.Judging.{judged}
-use Rattle.dates.specs.declared.reading.Read.{Read}
-use Rattle.dates.specs.declared.reading.Read.the-variants as R
+use Rattle.scales.specs.declared.answer.Read.{Read}
+use Rattle.scales.specs.declared.answer.Read.the-variants as R
 use Rattle.dates.specs.declared.reading.Reading.{Reading}
-use Rattle.dates.specs.Readings.{readOf}
+use Rattle.dates.specs.Readings.{readOf, purposeOf}
 use Rattle.opened.specs.Opened.{coefficientsIn}
-use Rattle.desk.specs.Conversion.{started, betweenOf, convertOf}
+use Rattle.desk.specs.Conversion.{started, betweenOf, convertInto}
 use Rattle.scales.specs.declared.answer.Stepped.{Stepped}
 use Rattle.scales.specs.declared.answer.Stepped.the-variants.{Reached, OutsideTable, OutsideRange}
 use Rattle.walk.specs.declared.kept.Kept.{Kept}
 use Rattle.walk.specs.Walk.{stepOf, afterStep, walkOf}
-use Rattle.scales.specs.declared.scale.Purpose.the-variants as P
-use Rattle.scales.specs.Scales.{highestCode, named}
+use Rattle.scales.specs.Scales.{named, isCode}
 use Rattle.promises.specs.Words.{tableIn}
 use Rattle.walk.specs.Walk.{walkBetween}
 use Rattle.promises.specs.Words.{startOf}
 use Rattle.walk.specs.Walk.{afterStep}
-use Rattle.promises.proofs.Walks.{apart, Course, from-refused, to-refused, table-refused, walking, course}
+use Rattle.promises.proofs.Walks.{apart, Course, from-refused, to-refused, table-refused, walking, course, list-unfit, list-wrong}
+use Rattle.scales.specs.declared.scale.Purpose.{Purpose}
+use Rattle.desk.specs.Order.{leapsFit, leapsRight}
 
 -- ---- why, and what is told then
 -- a step of a path ends the walk, when so many have been done: those before it are walked, and from
@@ -63,20 +64,25 @@ EndedBetween from to bytes tick r =
     (startOf from tick) r
 
 -- why a conversion is refused, and what it is refused with
-pub data Because (from to : ℕ) (reading : Reading) (bytes : List ℕ) (r : Refusal) : Type 0 where
+pub data Because (writes : Purpose) (from to : ℕ) (reading : Reading) (leaps : List ℤ) (bytes : List ℕ) (r : Refusal)
+    : Type 0 where
   -- '1: scale code above 6', place '0 from, 1 to'; '1 (from, then to)'
-  by-from : highestCode P.Reading < from → r .number ≡ 1 → r .place ≡ 0
-      → Because from to reading bytes r
-  by-to : from ≤ highestCode P.Reading → highestCode P.Reading < to → r .number ≡ 1 → r .place ≡ 1
-      → Because from to reading bytes r
+  by-from : isCode (purposeOf reading) from ≡ false → r .number ≡ 1 → r .place ≡ 0
+      → Because writes from to reading leaps bytes r
+  by-to : isCode writes to ≡ false → r .number ≡ 1 → r .place ≡ 1 → Because writes from to reading leaps bytes r
+  -- '8: lent lengths don't fit', and '7 exactly when the list breaks a rule'
+  by-length : leapsFit (purposeOf reading) writes leaps ≡ false → r .number ≡ 8 → r .place ≡ 0
+      → Because writes from to reading leaps bytes r
+  by-list : leapsRight (purposeOf reading) writes leaps ≡ false → r .number ≡ 7 → r .place ≡ 0
+      → Because writes from to reading leaps bytes r
   -- 'then the table 10 to 16 if the path crosses TT to TDB'
   by-table : crosses (named from) (named to) ≡ true → judged bytes ≡ J.Refused r
-      → Because from to reading bytes r
+      → Because writes from to reading leaps bytes r
   -- 'then 2 over both parts, 3 over both parts .., 4'
-  by-reading : readOf reading ≡ R.Refused r → Because from to reading bytes r
+  by-reading : readOf leaps reading ≡ R.Refused r → Because writes from to reading leaps bytes r
   -- 'then step by step, 6 before 4'
-  by-walk : (tick : ℤ) → readOf reading ≡ R.Tick tick → EndedBetween from to bytes tick r
-      → Because from to reading bytes r
+  by-walk : (tick : ℤ) → readOf leaps reading ≡ R.Tick tick → EndedBetween from to bytes tick r
+      → Because writes from to reading leaps bytes r
 
 -- ---- a walk that is refused
 module _ (kept : Kept) (cs : List ℤ) where
@@ -125,19 +131,22 @@ module _ (kept : Kept) (cs : List ℤ) where
       by rest OutsideRange s e = outside-range already (sym (ap answerNumber e)) (sym (ap answerPlace e)) (here step more already t OutsideRange s)
 
 -- ---- a conversion that is refused has one of the page's reasons
-pub because : (from to : ℕ) (reading : Reading) (bytes : List ℕ) (r : Refusal)
-    → convertOf from to reading bytes ≡ Refused r → Because from to reading bytes r
+pub because : (writes : Purpose) (from to : ℕ) (reading : Reading) (leaps : List ℤ) (bytes : List ℕ) (r : Refusal)
+    → convertInto writes from to reading leaps bytes ≡ Refused r → Because writes from to reading leaps bytes r
 unfolding betweenOf answerNumber answerPlace
-because from to reading bytes r e = by (course from to bytes)
+because writes from to reading leaps bytes r e = by (course writes from to reading leaps bytes)
   where
-    walked : (read : Read) → readOf reading ≡ read
+    walked : (read : Read) → readOf leaps reading ≡ read
         → started (walkBetween (tableIn bytes) (coefficientsIn bytes) (named from) (named to)) read ≡ Refused r
-        → Because from to reading bytes r
+        → Because writes from to reading leaps bytes r
     walked (R.Tick tick) q w = by-walk tick q (walk-ended (tableIn bytes) (coefficientsIn bytes) (path (named from) (named to)) 0 (startOf from tick) r w)
     walked (R.Refused refusal) q w = let same : refusal ≡ r = cc in by-reading (q ∙ ap R.Refused same)
 
-    by : Course from to bytes (λ reading. convertOf from to reading bytes) → Because from to reading bytes r
-    by (from-refused f is) = let d = sym e ∙ is reading in by-from f (ap answerNumber d) (ap answerPlace d)
-    by (to-refused f t is) = let d = sym e ∙ is reading in by-to f t (ap answerNumber d) (ap answerPlace d)
-    by (table-refused o q j is) = let d = sym (is reading) ∙ e in let same : q ≡ r = cc in by-table o (j ∙ ap J.Refused same)
-    by (walking is) = walked (readOf reading) refl (sym (is reading) ∙ e)
+    by : Course writes from to reading leaps bytes (convertInto writes from to reading leaps bytes)
+        → Because writes from to reading leaps bytes r
+    by (from-refused f is) = let d = sym e ∙ is in by-from f (ap answerNumber d) (ap answerPlace d)
+    by (to-refused t is) = let d = sym e ∙ is in by-to t (ap answerNumber d) (ap answerPlace d)
+    by (list-unfit l is) = let d = sym e ∙ is in by-length l (ap answerNumber d) (ap answerPlace d)
+    by (list-wrong l is) = let d = sym e ∙ is in by-list l (ap answerNumber d) (ap answerPlace d)
+    by (table-refused o q j is) = let d = sym is ∙ e in let same : q ≡ r = cc in by-table o (j ∙ ap J.Refused same)
+    by (walking is) = walked (readOf leaps reading) refl (sym is ∙ e)

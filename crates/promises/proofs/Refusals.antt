@@ -27,15 +27,15 @@ use Rattle.blocks.specs.declared.answer.Judged.the-variants as J
 use Rattle.blocks.specs.Answers as blocks
 use Rattle.numbers.specs.Tests.{Test, failsAt, verdict}
 use Rattle.blocks.specs.Judging.{judgedBy, tableTests, judged}
-use Rattle.dates.specs.declared.reading.Read.the-variants as R
+use Rattle.scales.specs.declared.answer.Read.the-variants as R
 use Rattle.dates.specs.declared.reading.Reading.{Reading}
-use Rattle.dates.specs.Answers.{readNumber, readTick}
+use Rattle.scales.specs.Answers.{readNumber, readTick}
 use Rattle.dates.specs.Readings.{readOf}
 use Rattle.scales.specs.declared.answer.Stepped.the-variants.{OutsideTable}
 use Rattle.walk.specs.declared.kept.Kept.{Kept}
 use Rattle.desk.specs.Order.{settled}
 use Rattle.opened.specs.Opened.{coefficientsIn}
-use Rattle.desk.specs.Conversion.{convertJudged, convertOf}
+use Rattle.desk.specs.Conversion.{convertOf, convertRead, convertInto}
 use Rattle.desk.proofs.Asking.{between-unseen}
 use Rattle.walk.proofs.Steps.{steps-are}
 use Rattle.scales.specs.Scales.{named}
@@ -44,7 +44,9 @@ use Rattle.promises.specs.Words.{startOf}
 use Rattle.promises.specs.Reasons.{StoppedAfter, stepsToTable, overOnce, toldNumbers, isAmong}
 use Rattle.promises.proofs.Readings.{reading-refusal}
 use Rattle.promises.proofs.Steps.{step-outside}
-use Rattle.promises.proofs.Reasons.{Stopped, EndedBetween, outside-table, outside-range, Because, by-from, by-to, by-table, by-reading, by-walk, because}
+use Rattle.promises.proofs.Reasons.{Stopped, EndedBetween, outside-table, outside-range, because}
+use Rattle.promises.proofs.Reasons.{Because, by-from, by-to, by-length, by-list, by-table, by-reading, by-walk}
+use Rattle.scales.specs.declared.scale.Purpose.the-variants as P
 
 -- ---- which numbers are told: what holds of each of them holds of the one that is told
 module _ (p : ℕ → Bool) where
@@ -107,10 +109,10 @@ stopped-over kept cs p start done o s =
     rw (s .split, so) (omega arith)
 
 -- ---- the refusal of a conversion, of any codes and reading over any table bytes
-module _ (from to : ℕ) (reading : Reading) (bytes : List ℕ) (r : Refusal)
-    (refused : convertOf from to reading bytes ≡ Refused r) where
+module _ (from to : ℕ) (reading : Reading) (leaps : List ℤ) (bytes : List ℕ) (r : Refusal)
+    (refused : convertOf from to reading leaps bytes ≡ Refused r) where
   number-told : isAmong toldNumbers (r .number) ≡ true
-  number-told = by (because from to reading bytes r refused)
+  number-told = by (because P.Reading from to reading leaps bytes r refused)
     where
       of : (number : ℕ) → isAmong toldNumbers number ≡ true → r .number ≡ number
           → isAmong toldNumbers (r .number) ≡ true
@@ -120,23 +122,27 @@ module _ (from to : ℕ) (reading : Reading) (bytes : List ℕ) (r : Refusal)
       ended tick (outside-table n s) = of 6 refl n
       ended tick (outside-range done n p s) = of 4 refl n
 
-      by : Because from to reading bytes r → isAmong toldNumbers (r .number) ≡ true
+      by : Because P.Reading from to reading leaps bytes r → isAmong toldNumbers (r .number) ≡ true
       by (by-from h n p) = of 1 refl n
-      by (by-to h k n p) = of 1 refl n
+      by (by-to h n p) = of 1 refl n
+      by (by-length h n p) = of 8 refl n
+      by (by-list h n p) = of 7 refl n
       by (by-table o j) = table-number (isAmong toldNumbers) bytes r refl j
-      by (by-reading q) = reading-refusal (λ of. isAmong toldNumbers (of .number) ≡ true) reading refl refl refl refl refl r q
+      by (by-reading q) = reading-refusal (λ of. isAmong toldNumbers (of .number) ≡ true) leaps reading refl refl refl refl refl refl r q
       by (by-walk tick q w) = ended tick w
 
   -- 6 comes of the walk alone, and so does 4 unless the start lies outside the range
   walk-6 : r .number ≡ 6 → (tick : ℤ) × EndedBetween from to bytes tick r
-  walk-6 six = by (because from to reading bytes r refused)
+  walk-6 six = by (because P.Reading from to reading leaps bytes r refused)
     where
-      by : Because from to reading bytes r → (tick : ℤ) × EndedBetween from to bytes tick r
+      by : Because P.Reading from to reading leaps bytes r → (tick : ℤ) × EndedBetween from to bytes tick r
       by (by-from h n p) = let no : ⊥ = omega arith in absurd no
-      by (by-to h k n p) = let no : ⊥ = omega arith in absurd no
+      by (by-to h n p) = let no : ⊥ = omega arith in absurd no
+      by (by-length h n p) = let no : ⊥ = omega arith in absurd no
+      by (by-list h n p) = let no : ⊥ = omega arith in absurd no
       by (by-table o j) = let no : ⊥ = omega (arith, table-above bytes r j) in absurd no
       by (by-reading q) =
-          let below = reading-refusal (λ of. of .number ≤ 4) reading (lit≤ tt) (lit≤ tt) (lit≤ tt) (lit≤ tt) (lit≤ tt) r q in
+          let below = reading-refusal (λ of. of .number ≤ 5) leaps reading (lit≤ tt) (lit≤ tt) (lit≤ tt) (lit≤ tt) (lit≤ tt) (lit≤ tt) r q in
           let no : ⊥ = omega arith in
           absurd no
       by (by-walk tick q w) = (tick, w)
@@ -151,13 +157,13 @@ module _ (from to : ℕ) (reading : Reading) (bytes : List ℕ) (r : Refusal)
 
   abbrev OutsideAfter : Type 0
   OutsideAfter =
-      (done : ℕ) × (r .place ≡ suc done) × StoppedAfter from to bytes (readTick (readOf reading)) done 4
+      (done : ℕ) × (r .place ≡ suc done) × StoppedAfter from to bytes (readTick (readOf leaps reading)) done 4
 
-  four-told : r .number ≡ 4 → ((r .place ≡ 0) × (readNumber (readOf reading) ≡ 4)) ⊎ OutsideAfter
+  four-told : r .number ≡ 4 → ((r .place ≡ 0) × (readNumber (readOf leaps reading) ≡ 4)) ⊎ OutsideAfter
   unfolding readNumber readTick answerNumber answerTick answerSteps steppedNumber
-  four-told four = by (because from to reading bytes r refused)
+  four-told four = by (because P.Reading from to reading leaps bytes r refused)
     where
-      ended : (tick : ℤ) → readOf reading ≡ R.Tick tick → EndedBetween from to bytes tick r → OutsideAfter
+      ended : (tick : ℤ) → readOf leaps reading ≡ R.Tick tick → EndedBetween from to bytes tick r → OutsideAfter
       ended tick q (outside-table n s) = let no : ⊥ = omega arith in absurd no
       ended tick q (outside-range done n p s) =
           rw q (
@@ -174,22 +180,25 @@ module _ (from to : ℕ) (reading : Reading) (bytes : List ℕ) (r : Refusal)
             },
           )
 
-      by : Because from to reading bytes r → ((r .place ≡ 0) × (readNumber (readOf reading) ≡ 4)) ⊎ OutsideAfter
+      by : Because P.Reading from to reading leaps bytes r
+          → ((r .place ≡ 0) × (readNumber (readOf leaps reading) ≡ 4)) ⊎ OutsideAfter
       by (by-from h n p) = let no : ⊥ = omega arith in absurd no
-      by (by-to h k n p) = let no : ⊥ = omega arith in absurd no
+      by (by-to h n p) = let no : ⊥ = omega arith in absurd no
+      by (by-length h n p) = let no : ⊥ = omega arith in absurd no
+      by (by-list h n p) = let no : ⊥ = omega arith in absurd no
       by (by-table o j) = let no : ⊥ = omega (arith, table-above bytes r j) in absurd no
       by (by-reading q) =
           let start =
-          reading-refusal (λ of. of .number ≡ 4 → of .place ≡ 0) reading (λ e. omega arith) (λ e. omega arith) (λ e. omega arith) (λ e. omega arith)
-          (λ e. refl) r q in
+          reading-refusal (λ of. of .number ≡ 4 → of .place ≡ 0) leaps reading (λ e. omega arith) (λ e. omega arith) (λ e. omega arith) (λ e. omega arith)
+          (λ e. omega arith) (λ e. refl) r q in
           inl (start four, rw q four)
       by (by-walk tick q w) = inr (ended tick q w)
 
 -- ---- and by its number, which is not 0
-module _ (from to : ℕ) (reading : Reading) (bytes : List ℕ)
-    (refused : 0 < answerNumber (convertOf from to reading bytes)) where
+module _ (from to : ℕ) (reading : Reading) (leaps : List ℤ) (bytes : List ℕ)
+    (refused : 0 < answerNumber (convertOf from to reading leaps bytes)) where
   abbrev answer : Answer
-  answer = convertOf from to reading bytes
+  answer = convertOf from to reading leaps bytes
 
   is-refused : answer ≡ Refused (record { number = answerNumber answer; place = answerPlace answer })
   unfolding answerNumber answerPlace
@@ -207,26 +216,27 @@ module _ (from to : ℕ) (reading : Reading) (bytes : List ℕ)
 
   -- the number is that of one of the tests of conversions
   pub told-number : isAmong toldNumbers (answerNumber answer) ≡ true
-  told-number = number-told from to reading bytes _ is-refused
+  told-number = number-told from to reading leaps bytes _ is-refused
 
   -- '6: outside the table', place 'steps done': the steps of the path before the one over the table
   pub place-of-6 : answerNumber answer ≡ 6 → answerPlace answer ≡ stepsToTable (path (named from) (named to))
-  place-of-6 six = six-told from to reading bytes _ is-refused six
+  place-of-6 six = six-told from to reading leaps bytes _ is-refused six
 
   -- '4: epoch outside the range at start, between steps or at the end', place 'steps done, the one
   -- that led outside counted': the reading is refused with 4, or from the tick that was read so
   -- many steps are walked and the next one leads outside
   pub place-of-4 : answerNumber answer ≡ 4
-      → ((answerPlace answer ≡ 0) × (readNumber (readOf reading) ≡ 4))
+      → ((answerPlace answer ≡ 0) × (readNumber (readOf leaps reading) ≡ 4))
       ⊎ ((done : ℕ) × (answerPlace answer ≡ suc done)
-      × StoppedAfter from to bytes (readTick (readOf reading)) done 4)
-  place-of-4 four = four-told from to reading bytes _ is-refused four
+      × StoppedAfter from to bytes (readTick (readOf leaps reading)) done 4)
+  place-of-4 four = four-told from to reading leaps bytes _ is-refused four
 
 -- ---- 'A path that doesn't cross never looks at the table': it answers the same over any two table
 -- bytes
-pub table-unseen : (from to : ℕ) (reading : Reading) (bytes bytes' : List ℕ) → crosses (named from) (named to) ≡ false
-    → convertOf from to reading bytes ≡ convertOf from to reading bytes'
-unfolding convertOf convertJudged settled
-table-unseen from to reading bytes bytes' c =
-    let walk = between-unseen (named from) (named to) c (readOf reading) in
+pub table-unseen : (from to : ℕ) (reading : Reading) (leaps : List ℤ) (bytes bytes' : List ℕ)
+    → crosses (named from) (named to) ≡ false
+    → convertOf from to reading leaps bytes ≡ convertOf from to reading leaps bytes'
+unfolding convertInto convertRead settled
+table-unseen from to reading leaps bytes bytes' c =
+    let walk = between-unseen (named from) (named to) c (readOf leaps reading) in
     rw (c, walk (tableIn bytes) (tableIn bytes') (coefficientsIn bytes) (coefficientsIn bytes'))

@@ -28,7 +28,7 @@ use Rattle.scales.proofs.Every.{every-two}
 use Rattle.scales.proofs.Paths.{Leads, leads, opposite-path}
 use Rattle.dates.specs.declared.reading.Reading.{Reading}
 use Rattle.dates.specs.declared.reading.Reading.the-variants.{Ticks}
-use Rattle.dates.specs.Answers.{readTick}
+use Rattle.scales.specs.Answers.{readTick}
 use Rattle.dates.specs.Readings.{readOf}
 use Rattle.walk.specs.Walk.{toTdb, toTt, stepOf}
 use Rattle.walk.proofs.OneStep.{tt-reached}
@@ -47,7 +47,7 @@ use Rattle.scales.specs.declared.scale.Purpose.the-variants as P
 use Rattle.scales.specs.Scales.{named, isCode}
 use Rattle.promises.specs.Words.{tableIn}
 use Rattle.promises.specs.Words.{startOf}
-use Rattle.promises.specs.Tests.{codeTests, crossedTests, readingTests, stepTests, walkTests}
+use Rattle.promises.specs.Tests.{codeTests, crossedTests, readingTests, stepTests, walkTests, leapTests}
 use Rattle.promises.proofs.Told.{ofAnswer, conversion-told}
 use Rattle.promises.proofs.Parts.{tdb-number}
 use Rattle.promises.proofs.Exactly.{epochOf, conversion-exactly}
@@ -79,16 +79,17 @@ crosses-back start finish = every-two (λ a b. crosses b a) crosses refl start f
 
 -- ---- Between two codes whose scales are neighbours, that is, whose path is one step: a reading
 -- that is converted there and its answer back, over the same table bytes
-module _ (from to : ℕ) (reading : Reading) (bytes : List ℕ) (one : steps (named from) (named to) ≡ 1)
-    (accepted : answerNumber (convertOf from to reading bytes) ≡ 0) where
+module _ (from to home : ℕ) (reading : Reading) (leaps : List ℤ) (bytes : List ℕ) (same : named home ≡ named from)
+    (one : steps (named from) (named to) ≡ 1)
+    (accepted : answerNumber (convertOf from to reading leaps bytes) ≡ 0) where
   abbrev there : Answer
-  there = convertOf from to reading bytes
+  there = convertOf from to reading leaps bytes
 
   abbrev back : Answer
-  back = convertOf to from (Ticks (answerTick there)) bytes
+  back = convertOf to home (Ticks (answerTick there)) [] bytes
 
   abbrev read : ℤ
-  read = readTick (readOf reading)
+  read = readTick (readOf leaps reading)
 
   between : Neighbours (named from) (named to)
   between = neighbours (named from) (named to) one
@@ -99,41 +100,48 @@ module _ (from to : ℕ) (reading : Reading) (bytes : List ℕ) (one : steps (na
   taken-there : step-taken
   taken-there =
       one-step (tableIn bytes) (coefficientsIn bytes) (between .step) (path (named from) (named to)) (between .there) (startOf from read) (epochOf there)
-      (answerSteps there) (walked-from from to reading bytes accepted)
+      (answerSteps there) (walked-from P.Reading from to reading leaps bytes accepted)
 
   -- accepted, it lands within one tick of the tick that was read
   pub there-and-back : answerNumber back ≡ 0 → natAbs (answerTick back -ℤ read) ≤ 1
+  unfolding readOf
   there-and-back again =
       let kept = tableIn bytes in
       let cs = coefficientsIn bytes in
-      let tick = ticks-read (answerTick there) (reading-accepted to from (Ticks (answerTick there)) bytes again) in
+      let tick = ticks-read (answerTick there) (reading-accepted P.Reading to home (Ticks (answerTick there)) [] bytes again) in
+      let way : path (named to) (named home) ≡ opposite (between .step) ∷ [] = rw same (between .back) in
       step-back kept cs (bytes-held bytes) read (epochOf there) (between .step) (epochOf back) taken-there
-      (one-step kept cs (opposite (between .step)) (path (named to) (named from)) (between .back) (startOf to (answerTick there)) (epochOf back)
-      (answerSteps back) (rw tick at (walked-from to from (Ticks (answerTick there)) bytes again)))
+      (one-step kept cs (opposite (between .step)) (path (named to) (named home)) way (startOf to (answerTick there)) (epochOf back)
+      (answerSteps back) (rw tick at (walked-from P.Reading to home (Ticks (answerTick there)) [] bytes again)))
 
-  -- and it is accepted: over every line, and from TT over the table, always; from TDB wherever the
-  -- tick after the one that was read is in the range too
-  pub back-accepted : (named from ≡ Tdb → named to ≡ Tt → isValid (read +ℤ pos 1) ≡ true) → answerNumber back ≡ 0
+  -- and it is accepted, to a code of a conversion into ticks: over every line, and from TT over the
+  -- table, always; from TDB wherever the tick after the one that was read is in the range too
+  pub back-accepted : isCode P.Reading home ≡ true
+      → (named from ≡ Tdb → named to ≡ Tt → isValid (read +ℤ pos 1) ≡ true) → answerNumber back ≡ 0
   unfolding steppedNumber
-  back-accepted inner =
+  back-accepted code inner =
       let kept = tableIn bytes in
       let cs = coefficientsIn bytes in
-      let r = step-returns kept cs (bytes-held bytes) read (epochOf there) (start-valid from to reading bytes accepted) (between .step)
+      let r = step-returns kept cs (bytes-held bytes) read (epochOf there) (start-valid P.Reading from to reading leaps bytes accepted) (between .step)
       (λ e. inner (sym (between .begins) ∙ ap begin e) (sym (between .ends) ∙ ap end e)) taken-there in
-      let codes = conversion-exactly from to reading bytes .accepted accepted in
-      let valid = tick-valid from to reading bytes accepted in
-      let crossed = pass-both (crossedTests from to bytes) (walkTests from to reading bytes) (codes .1 .1) .0 in
-      let begins = isCode P.Reading from in
+      let codes = conversion-exactly from to reading leaps bytes .accepted accepted in
+      let valid = tick-valid P.Reading from to reading leaps bytes accepted in
+      let crossed = pass-both (crossedTests from to bytes) (walkTests from to reading leaps bytes) (codes .1 .1 .1 .1) .0 in
       let ends = isCode P.Reading to in
       let first = only-passes 1 0 ends (passes-only 1 1 ends (codes .1 .0)) in
-      let second = only-passes 1 1 begins (passes-only 1 0 begins (codes .0)) in
-      conversion-exactly to from (Ticks (answerTick there)) bytes .passing (
+      conversion-exactly to home (Ticks (answerTick there)) [] bytes .passing (
         first,
         (
-          second,
-          pass-join (crossedTests to from bytes) _ (rw (crosses-back (named from) (named to)) crossed) (
-            only-passes 4 0 (isValid (answerTick there)) valid,
-            rw (between .back, r .1) (only-passes 6 0 true refl, (only-passes 4 1 true refl, tt)),
+          only-passes 1 1 (isCode P.Reading home) code,
+          (
+            only-passes 8 0 true refl,
+            (
+              only-passes 7 0 true refl,
+              pass-join (crossedTests to home bytes) _ (rw (same, crosses-back (named from) (named to)) crossed) (
+                only-passes 4 0 (isValid (answerTick there)) valid,
+                rw (same, between .back, r .1) (only-passes 6 0 true refl, (only-passes 4 1 true refl, tt)),
+              ),
+            ),
           ),
         ),
       )
@@ -142,21 +150,22 @@ module _ (from to : ℕ) (reading : Reading) (bytes : List ℕ) (one : steps (na
 one-number : (from to : ℕ) (tick : ℤ) (bytes : List ℕ) (step : Step) → path (named from) (named to) ≡ step ∷ []
     → 1 ≤ failsAt (only 1 0 (isCode P.Reading from)) → 2 ≤ failsAt (only 1 1 (isCode P.Reading to))
     → AllPass (crossedTests from to bytes) → isValid tick ≡ true
-    → answerNumber (convertOf from to (Ticks tick) bytes)
+    → answerNumber (convertOf from to (Ticks tick) [] bytes)
     ≡ steppedNumber (stepOf (tableIn bytes) (coefficientsIn bytes) step tick)
 unfolding answerNumber verdict steppedNumber
 one-number from to tick bytes step single first second crossed valid =
     let number : ℕ → ℕ → ℕ = λ n p. n in
-    let walk = walkTests from to (Ticks tick) bytes in
+    let walk = walkTests from to (Ticks tick) [] bytes in
     let steps-left = stepTests (tableIn bytes) (coefficientsIn bytes) (path (named from) (named to)) 0 tick in
     let last : verdict number 0 steps-left ≡ steppedNumber stepped = rw single (only-told number 0 6 0 (only 4 1 ranged ∷ []) inside
     ∙ ap (λ (n : ℕ). cond inside n 6) (only-told number 0 4 1 [] ranged)
     ∙ by stepped) in
-    sym (told (convertOf from to (Ticks tick) bytes))
-    ∙ sym (conversion-told number 0 from to (Ticks tick) bytes)
-    ∙ more-passed number 0 (codeTests P.Reading from to) (crossedTests from to bytes ++ walk) (first, (second, unit))
+    sym (told (convertOf from to (Ticks tick) [] bytes))
+    ∙ sym (conversion-told number 0 P.Reading from to (Ticks tick) [] bytes)
+    ∙ more-passed number 0 (codeTests P.Reading P.Reading from to ++ leapTests P.Reading P.Reading []) (crossedTests from to bytes ++ walk)
+    (first, (second, (only-passes 8 0 true refl, (only-passes 7 0 true refl, unit))))
     ∙ more-passed number 0 (crossedTests from to bytes) walk crossed
-    ∙ more-passed number 0 (readingTests (Ticks tick)) steps-left (only-passes 4 0 (isValid tick) valid, unit)
+    ∙ more-passed number 0 (readingTests [] (Ticks tick)) steps-left (only-passes 4 0 (isValid tick) valid, unit)
     ∙ last
   where
     unit : Unit {0}
@@ -183,17 +192,18 @@ one-number from to tick bytes step single first second crossed valid =
 
 -- ---- from TDB over the table, exactly: the way back is accepted where the TDB of the tick that
 -- was answered is in the range, else it is 4
-module _ (from to : ℕ) (reading : Reading) (bytes : List ℕ) (starts : named from ≡ Tdb) (ends : named to ≡ Tt)
-    (accepted : answerNumber (convertOf from to reading bytes) ≡ 0) where
+module _ (from to : ℕ) (reading : Reading) (leaps : List ℤ) (bytes : List ℕ) (starts : named from ≡ Tdb)
+    (ends : named to ≡ Tt) (code : isCode P.Reading from ≡ true)
+    (accepted : answerNumber (convertOf from to reading leaps bytes) ≡ 0) where
   abbrev reached : ℤ
-  reached = answerTick (convertOf from to reading bytes)
+  reached = answerTick (convertOf from to reading leaps bytes)
 
   abbrev tdb : ℤ
   tdb = tdbOf (tableOf bytes) (coefficientsIn bytes) reached
 
   -- the tick that was answered lies inside the table
-  stands-inside : toTt (tableIn bytes) (coefficientsIn bytes) (readTick (readOf reading))
-      ≡ Reached (epochOf (convertOf from to reading bytes))
+  stands-inside : toTt (tableIn bytes) (coefficientsIn bytes) (readTick (readOf leaps reading))
+      ≡ Reached (epochOf (convertOf from to reading leaps bytes))
       → steppedNumber (toTdb (tableIn bytes) (coefficientsIn bytes) reached) ≡ cond (isValid tdb) 0 4
   stands-inside = by (judged bytes) refl
     where
@@ -201,29 +211,29 @@ module _ (from to : ℕ) (reading : Reading) (bytes : List ℕ) (starts : named 
       cs = coefficientsIn bytes
 
       by : (judgement : Judged) → judged bytes ≡ judgement
-          → toTt (heldBy judgement) cs (readTick (readOf reading)) ≡ Reached (epochOf (convertOf from to reading bytes))
+          → toTt (heldBy judgement) cs (readTick (readOf leaps reading))
+          ≡ Reached (epochOf (convertOf from to reading leaps bytes))
           → steppedNumber (toTdb (heldBy judgement) cs reached) ≡ cond (isValid tdb) 0 4
       by (J.Refused refusal) j e = nowhere e
       by (J.Accepted of) j e =
-          let a = tt-reached of cs (readTick (readOf reading)) _ e in
-          let inside = earliest-of of cs (readTick (readOf reading)) (a .covered) .inside in
+          let a = tt-reached of cs (readTick (readOf leaps reading)) _ e in
+          let inside = earliest-of of cs (readTick (readOf leaps reading)) (a .covered) .inside in
           let here = rw (same-tick (a .is)) at inside in
           rw (accepted-table bytes of j) (tdb-number of cs reached ∙ rw here)
 
-  pub back-of-tdb : answerNumber (convertOf to from (Ticks reached) bytes) ≡ cond (isValid tdb) 0 4
+  pub back-of-tdb : answerNumber (convertOf to from (Ticks reached) [] bytes) ≡ cond (isValid tdb) 0 4
   back-of-tdb =
       let there = Back Edge.Table in
       let single : path (named from) (named to) ≡ there ∷ [] = rw (starts, ends) in
-      let answer = convertOf from to reading bytes in
-      let codes = conversion-exactly from to reading bytes .accepted accepted in
-      let crossed = pass-both (crossedTests from to bytes) (walkTests from to reading bytes) (codes .1 .1) .0 in
-      let start = isCode P.Reading from in
+      let answer = convertOf from to reading leaps bytes in
+      let codes = conversion-exactly from to reading leaps bytes .accepted accepted in
+      let crossed = pass-both (crossedTests from to bytes) (walkTests from to reading leaps bytes) (codes .1 .1 .1 .1) .0 in
       let end = isCode P.Reading to in
       one-number to from reached bytes (Along Edge.Table) (rw (starts, ends))
       (only-passes 1 0 end (passes-only 1 1 end (codes .1 .0)))
-      (only-passes 1 1 start (passes-only 1 0 start (codes .0)))
+      (only-passes 1 1 (isCode P.Reading from) code)
       (rw (crosses-back (named from) (named to)) crossed)
-      (tick-valid from to reading bytes accepted)
+      (tick-valid P.Reading from to reading leaps bytes accepted)
       ∙ stands-inside
-      (one-step (tableIn bytes) (coefficientsIn bytes) there (path (named from) (named to)) single (startOf from (readTick (readOf reading))) (epochOf answer)
-      (answerSteps answer) (walked-from from to reading bytes accepted))
+      (one-step (tableIn bytes) (coefficientsIn bytes) there (path (named from) (named to)) single (startOf from (readTick (readOf leaps reading)))
+      (epochOf answer) (answerSteps answer) (walked-from P.Reading from to reading leaps bytes accepted))

@@ -9,7 +9,7 @@ use Rattle.granule.specs.Rule.{delayAt}
 use Rattle.image.specs.declared.table.Table.{Table}
 use Rattle.image.specs.Image.{imageOf}
 use Rattle.dates.specs.declared.reading.Reading.the-variants.{TwoPart, Ticks}
-use Rattle.dates.specs.Answers.{Accepts}
+use Rattle.scales.specs.Answers.{Accepts}
 use Rattle.dates.specs.Readings.{readOf}
 use Rattle.desk.specs.Conversion.{convertOf}
 use Rattle.scales.specs.Scales.{named}
@@ -47,9 +47,9 @@ pub data Row : Type 0 where
 
 abbrev pub Holds : Row → Type 0
 Holds (converts from to tick bytes answer) =
-    Gives (convertOf from to (Ticks tick) bytes) (named to) answer 1
+    Gives (convertOf from to (Ticks tick) [] bytes) (named to) answer 1
 Holds (delays coefficient delay) = (place H : ℕ) → delayAt (coefficient ∷ []) place H ≡ delay
-Holds (reads first second tick) = Accepts (readOf (TwoPart first second)) tick
+Holds (reads first second tick) = Accepts (readOf [] (TwoPart first second)) tick
 
 abbrev pub AllHold : List Row → Type 0
 AllHold [] = Unit {0}

@@ -15,7 +15,7 @@ use Rattle.scales.specs.Rows.{overTable}
 use Rattle.opened.specs.Opened.{coefficientsIn}
 use Rattle.walk.specs.Walk.{stepOf, walkOf}
 use Rattle.scales.specs.Scales.{named}
-use Rattle.dates.specs.declared.reading.Reading.the-variants.{TwoPart}
+use Rattle.dates.specs.declared.reading.Reading.the-variants.{TwoPart, Utc}
 use Rattle.promises.specs.Tests.{conversionTests}
 use Rattle.promises.specs.Words.{startOf, tableIn}
 
@@ -46,11 +46,12 @@ overOnce [] = true
 overOnce (step ∷ more) = cond (overTable step) (not (anyOverTable more)) (overOnce more)
 
 -- the numbers with which a conversion can be refused: those of the tests of one from TT to TDB that
--- is asked of a date, which has every kind of test
+-- is asked of a date, and of one from UTC, which have every kind of test between them
 abbrev pub toldNumbers : List ℕ
 toldNumbers =
     let part = fin false 0 (pos 0) in
-    numbersOf (conversionTests 3 5 (TwoPart part part) [])
+    numbersOf (conversionTests 3 5 (TwoPart part part) [] [])
+    ++ numbersOf (conversionTests 7 5 (Utc (pos 0) (pos 0)) [] [])
 
 abbrev pub isAmong : List ℕ → ℕ → Bool
 isAmong [] number = false

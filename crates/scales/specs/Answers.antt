@@ -1,10 +1,13 @@
 -- What each case of an answer says in the page's numbers: 0 for 'accepted', and 0 for whatever a
 -- refusal does not carry ('A refusal carries no tick').
+use mathlib.Core.Path.{_≡_}
 use mathlib.Core.Bool.{cond}
 use Prim.Native.Nat.{ℕ}
 use lib.IntN.{ℤ, pos}
 use Rattle.scales.specs.declared.answer.Answer.{Answer}
 use Rattle.scales.specs.declared.answer.Answer.the-variants.{Converted, Refused}
+use Rattle.scales.specs.declared.answer.Read.{Read}
+use Rattle.scales.specs.declared.answer.Read.the-variants as R
 use Rattle.scales.specs.declared.answer.Stepped.{Stepped}
 use Rattle.scales.specs.declared.answer.Stepped.the-variants as S
 use Rattle.scales.specs.declared.scale.Named.{Named}
@@ -12,6 +15,26 @@ use Rattle.scales.specs.declared.scale.Named.the-variants as N
 use Rattle.scales.specs.declared.scale.Scale.{Scale}
 use Rattle.scales.specs.Scales.{named}
 use Rattle.scales.specs.Tick.{isValid}
+
+-- ---- a reading's answer
+unfoldable pub readNumber : Read → ℕ
+readNumber (R.Tick tick) = 0
+readNumber (R.Refused refusal) = refusal .number
+
+unfoldable pub readPlace : Read → ℕ
+readPlace (R.Tick tick) = 0
+readPlace (R.Refused refusal) = refusal .place
+
+unfoldable pub readTick : Read → ℤ
+readTick (R.Tick tick) = tick
+readTick (R.Refused refusal) = pos 0
+
+-- an answer that accepts, with its tick, and one that refuses, with its number and place
+abbrev pub Accepts : Read → ℤ → Type 0
+Accepts answer tick = (readNumber answer ≡ 0) × (readTick answer ≡ tick)
+
+abbrev pub Refuses : Read → ℕ → ℕ → Type 0
+Refuses answer number place = (readNumber answer ≡ number) × (readPlace answer ≡ place)
 
 -- ---- a conversion's answer
 unfoldable pub answerNumber : Answer → ℕ

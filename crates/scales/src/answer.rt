@@ -11,6 +11,12 @@ pub struct Epoch {
     pub tick: i64,
 }
 
+// What a reading says: a valid tick, or a refusal, which 'carries no tick'.
+pub enum Read {
+    Tick(i64),
+    Refused(Refusal),
+}
+
 // 'Its answer carries the tick and the number of steps walked (0 to 4)', or it is a refusal, which
 // 'carries no tick'.
 pub enum Answer {

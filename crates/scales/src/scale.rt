@@ -1,7 +1,7 @@
 // The scales and their codes.
 use crate::refusal::Refusal;
 ghost use mathlib.Core.Path.{_≡_};
-ghost use Rattle.scales.specs.Scales.{highestCode, isCode, named, scaleOf};
+ghost use Rattle.scales.specs.Scales.{lowestCode, highestCode, isCode, named, scaleOf};
 
 pub enum Scale {
     Gps,
@@ -12,11 +12,13 @@ pub enum Scale {
     Tcb,
 }
 
-// What a code is read for: one reading, a batch of ticks, or a line of text.
+// What a code is read for: the scale of a date or of ticks in one conversion, of a batch of ticks
+// or of a line of text; or a UTC reading, or a written one.
 pub enum Purpose {
     Reading,
     Batch,
     Line,
+    Utc,
 }
 
 // What a code names.
@@ -25,7 +27,19 @@ pub enum Named {
     Refused(Refusal),
 }
 
-// The highest code, by what it is read for: none is a 'scale code above 6'.
+// The lowest code, by what it is read for.
+fn lowest_code(purpose: Purpose) -> u32
+    ensures { λ r. ⌜ r ≡ lowestCode purpose ⌝ }
+{
+    match purpose {
+        Purpose::Reading => 0,
+        Purpose::Batch => 0,
+        Purpose::Line => 0,
+        Purpose::Utc => 7,
+    }
+}
+
+// The highest: none but UTC's is a 'scale code above 6'.
 fn highest_code(purpose: Purpose) -> u32
     ensures { λ r. ⌜ r ≡ highestCode purpose ⌝ }
 {
@@ -33,6 +47,7 @@ fn highest_code(purpose: Purpose) -> u32
         Purpose::Reading => 6,
         Purpose::Batch => 6,
         Purpose::Line => 6,
+        Purpose::Utc => 7,
     }
 }
 
@@ -40,11 +55,14 @@ fn highest_code(purpose: Purpose) -> u32
 fn is_code(purpose: Purpose, code: u32) -> bool
     ensures { λ r. ⌜ r ≡ isCode purpose code ⌝ }
 {
+    if code < lowest_code(purpose) {
+        return false;
+    }
     code <= highest_code(purpose)
 }
 
-// 'Codes: 1 GPS, 2 TAI, 3 TT, 4 TCG, 5 TDB, 6 TCB; 0 is read as TT.' A number that is no code
-// names none; TT stands in for it.
+// 'Codes: 1 GPS, 2 TAI, 3 TT, 4 TCG, 5 TDB, 6 TCB; 0 is read as TT.' 'UTC is code 7', and is read
+// and written in TAI. A number that is no code names none; TT stands in for it.
 fn scale_named(code: u32) -> Scale
     ensures { λ r. ⌜ r ≡ named code ⌝ }
 {
@@ -56,6 +74,7 @@ fn scale_named(code: u32) -> Scale
         4 => Scale::Tcg,
         5 => Scale::Tdb,
         6 => Scale::Tcb,
+        7 => Scale::Tai,
         _ => Scale::Tt,
     }
 }

@@ -1,7 +1,8 @@
 //! Requests and answers as bytes. bridge/bridge.c tells what each means.
 
-use crate::compare::{Answer, Asked, Date, Reply, TableAnswer};
+use crate::compare::{Answer, Asked, Date, Reply, TableAnswer, UtcAnswer};
 use crate::dates::Reading;
+use crate::utc::Utc;
 
 /// The functions by their numbers. The first calls none: a bridge answers it.
 pub const NONE: u64 = 0;
@@ -13,6 +14,8 @@ const CONVERT_TICKS: u64 = 5;
 const CONVERT_DATE: u64 = 6;
 const CONVERT_J2000: u64 = 7;
 const BATCH: u64 = 8;
+const CONVERT_UTC: u64 = 9;
+const WRITE_UTC: u64 = 10;
 
 /// How a place is lent.
 pub const NOTHING: u64 = 0;
@@ -72,10 +75,17 @@ pub fn numbers_of(asked: Asked) -> (u64, Arguments) {
                     (CONVERT_DATE, [first.to_bits(), second.to_bits()])
                 }
                 Reading::SinceJ2000(seconds) => (CONVERT_J2000, [seconds.to_bits(), 0]),
+                Reading::Utc(Utc { day, ticks }) => {
+                    (CONVERT_UTC, [day, ticks].map(i64::cast_unsigned))
+                }
             };
             (function, [from.into(), to.into(), first, second])
         }
         Asked::Batch { from, to } => (BATCH, [from.into(), to.into(), 0, 0]),
+        Asked::WriteUtc { from, to, tick } => {
+            let tick = tick.cast_unsigned();
+            (WRITE_UTC, [from.into(), to.into(), tick, 0])
+        }
     }
 }
 
@@ -85,6 +95,10 @@ pub fn asked_of(function: u64, [a, b, c, d]: Arguments) -> Option<Asked> {
         CONVERT_TICKS => Some(Reading::Ticks(c.cast_signed())),
         CONVERT_DATE => Some(Reading::TwoPart(f64::from_bits(c), f64::from_bits(d))),
         CONVERT_J2000 => Some(Reading::SinceJ2000(f64::from_bits(c))),
+        CONVERT_UTC => Some(Reading::Utc(Utc {
+            day: c.cast_signed(),
+            ticks: d.cast_signed(),
+        })),
         _ => None,
     };
     let (from, to) = (a as u32, b as u32);
@@ -102,6 +116,11 @@ pub fn asked_of(function: u64, [a, b, c, d]: Arguments) -> Option<Asked> {
             tick: a.cast_signed(),
         }),
         (BATCH, _) => Some(Asked::Batch { from, to }),
+        (WRITE_UTC, _) => Some(Asked::WriteUtc {
+            from,
+            to,
+            tick: c.cast_signed(),
+        }),
         _ => None,
     }
 }
@@ -134,6 +153,11 @@ pub fn fields_of(reply: &Reply) -> Fields {
                 range[1],
             ]
         }
+        Reply::Utc(utc) => {
+            let (number, steps) = (utc.number.into(), utc.steps.into());
+            let [day, ticks] = [utc.day, utc.ticks].map(i64::cast_unsigned);
+            [number, steps, utc.place, day, ticks, 0]
+        }
     }
 }
 
@@ -159,7 +183,16 @@ pub fn reply_of(asked: Asked, fields: Fields) -> Option<Reply> {
                 second: f64::from_bits(second),
             }))
         }
-        (Asked::WriteDate { .. }, _) => None,
+        (Asked::WriteUtc { .. }, [number, steps, place, day, ticks, 0]) => {
+            Some(Reply::Utc(UtcAnswer {
+                number: narrow(number)?,
+                steps: narrow(steps)?,
+                place,
+                day: day.cast_signed(),
+                ticks: ticks.cast_signed(),
+            }))
+        }
+        (Asked::WriteDate { .. } | Asked::WriteUtc { .. }, _) => None,
         (_, [number, steps, place, index, tick, 0]) => Some(Reply::Answer(Answer {
             number: narrow(number)?,
             steps: narrow(steps)?,

@@ -113,8 +113,10 @@ fn ticks(
     (from, to): (u32, u32),
     (length, at): (usize, RefusedAt),
 ) -> Vec<i64> {
-    let is_accepted =
-        |tick: &i64| desk::convert(from, to, Reading::Ticks(*tick), &staged.judged).is_ok();
+    let is_accepted = |tick: &i64| {
+        let reading = Reading::Ticks(*tick);
+        desk::convert(from, to, reading, &[], &staged.judged).is_ok()
+    };
     let (accepted, mut refused): (Vec<i64>, Vec<i64>) = (0..length.clamp(8, 64))
         .map(|_| random.pick(&staged.ticks))
         .partition(is_accepted);

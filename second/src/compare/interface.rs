@@ -1,7 +1,7 @@
-//! The interface: what is asked and lent, the three answers, and a desk.
+//! The interface: what is asked and lent, the four answers, and a desk.
 
 use crate::dates::Reading;
-use crate::desk::{BatchRefusal, Converted};
+use crate::desk::{BatchRefusal, Converted, Written};
 use crate::refusal::Refusal;
 use crate::table::Judged;
 
@@ -30,6 +30,15 @@ pub struct TableAnswer {
     pub place: u64,
     pub start: i64,
     pub length: i64,
+}
+
+#[derive(Clone, Copy, Debug, Default, PartialEq, Eq)]
+pub struct UtcAnswer {
+    pub number: u32,
+    pub steps: u32,
+    pub place: u64,
+    pub day: i64,
+    pub ticks: i64,
 }
 
 /// Bit for bit: 0.0 and −0.0 are two answers.
@@ -117,6 +126,24 @@ impl From<Result<(f64, f64), Refusal>> for Date {
     }
 }
 
+impl From<Result<Written, Refusal>> for UtcAnswer {
+    fn from(written: Result<Written, Refusal>) -> UtcAnswer {
+        match written {
+            Ok(Written { utc, steps }) => UtcAnswer {
+                steps,
+                day: utc.day,
+                ticks: utc.ticks,
+                ..UtcAnswer::default()
+            },
+            Err(Refusal { number, place }) => UtcAnswer {
+                number,
+                place,
+                ..UtcAnswer::default()
+            },
+        }
+    }
+}
+
 /// A function of the interface, with the arguments that are plain numbers.
 #[derive(Clone, Copy, Debug)]
 pub enum Asked {
@@ -131,7 +158,7 @@ pub enum Asked {
     WriteDate {
         tick: i64,
     },
-    /// One of the three conversions: the reading tells which.
+    /// One of the four conversions: the reading tells which.
     Convert {
         from: u32,
         to: u32,
@@ -141,13 +168,18 @@ pub enum Asked {
         from: u32,
         to: u32,
     },
+    WriteUtc {
+        from: u32,
+        to: u32,
+        tick: i64,
+    },
 }
 
 /// What a call is lent; what it has no use for is empty.
 #[derive(Clone, Debug, Default)]
 pub struct Lent<'a> {
     pub table: &'a [u8],
-    /// The coefficients or ticks that are lent to be read.
+    /// The coefficients, the ticks or the pairs of TAI−UTC lent to be read.
     pub list: &'a [i64],
     /// What stands in the buffer lent to be written, before the call.
     pub buffer: Vec<u8>,
@@ -172,6 +204,7 @@ pub enum Reply {
     Answer(Answer),
     Date(Date),
     Table(TableAnswer),
+    Utc(UtcAnswer),
 }
 
 impl Reply {
@@ -180,6 +213,7 @@ impl Reply {
             Reply::Answer(answer) => answer.number,
             Reply::Date(date) => date.number,
             Reply::Table(table) => table.number,
+            Reply::Utc(utc) => utc.number,
         }
     }
 }

@@ -3,7 +3,7 @@
 use super::buffers::bytes_of_ticks;
 use super::interface::{Answer, Asked, Called, Desk, Lent, Outcome, Reply, TableAnswer};
 use crate::blocks;
-use crate::dates;
+use crate::dates::{self, Reading};
 use crate::desk::{self, Converted};
 use crate::table::{Judged, Table};
 
@@ -56,7 +56,8 @@ impl Own {
             }
             Asked::WriteDate { tick } => (Reply::Date(dates::write_date(tick).into()), None),
             Asked::Convert { from, to, reading } => {
-                let converted = desk::convert(from, to, reading, self.judged(lent.table));
+                let judged = self.judged(lent.table);
+                let converted = desk::convert(from, to, reading, lent.list, judged);
                 (Reply::Answer(converted.into()), None)
             }
             Asked::Batch { from, to } => {
@@ -65,6 +66,11 @@ impl Own {
                 let answer = Answer::from(batch.as_ref().map(|b| b.steps).map_err(|r| *r));
                 let written = batch.map(|batch| bytes_of_ticks(&batch.ticks));
                 (Reply::Answer(answer), written.ok())
+            }
+            Asked::WriteUtc { from, to, tick } => {
+                let (reading, judged) = (Reading::Ticks(tick), self.judged(lent.table));
+                let written = desk::write_utc(from, to, reading, lent.list, judged);
+                (Reply::Utc(written.into()), None)
             }
         }
     }

@@ -12,8 +12,7 @@ fn how_many(stage: &Stage) -> usize {
     3 * stage.size.readings()
 }
 
-/// No step is walked, and any table will do: most often none, at times one that
-/// is accepted or refused.
+/// No step is walked, so no table is looked at.
 fn read(
     stage: &Stage,
     trial: &mut Trial,
@@ -22,12 +21,8 @@ fn read(
 ) -> Result<(), String> {
     let code = random.index(7) as u32;
     let (from, to) = random.pick(&[(code, code), (3, 3), (0, 3), (3, 0)]);
-    let table = match random.index(16) {
-        0 => &stage.staged[random.index(stage.staged.len())].bytes[..],
-        1 => &[1],
-        _ => &[],
-    };
-    trial.ask(Asked::Convert { from, to, reading }, Lent::table(table))
+    let lent = Lent::table(stage.any_table(random));
+    trial.ask(Asked::Convert { from, to, reading }, lent)
 }
 
 pub fn read_date(stage: &Stage, trial: &mut Trial) -> Result<(), String> {

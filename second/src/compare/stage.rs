@@ -74,6 +74,16 @@ impl Stage {
             images,
         }
     }
+
+    /// For a path that never looks at it any table will do: most often none, at
+    /// times one that is accepted or refused.
+    pub fn any_table(&self, random: &mut Random) -> &[u8] {
+        match random.index(16) {
+            0 => &self.staged[random.index(self.staged.len())].bytes,
+            1 => &[1],
+            _ => &[],
+        }
+    }
 }
 
 fn staged(random: &mut Random, bytes: Vec<u8>) -> Staged {

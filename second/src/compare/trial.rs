@@ -6,9 +6,10 @@ use super::ledger::Ledger;
 use super::own::Own;
 use crate::dates::Reading;
 use crate::generate::Random;
+use crate::utc::GREATEST_PAIRS;
 
-/// So much of a lent list is shown with a difference.
-const SHOWN: usize = 8;
+/// So much of a lent list is shown with a difference: all of a list of TAI−UTC.
+const SHOWN: usize = 2 * GREATEST_PAIRS;
 
 pub struct Trial<'a> {
     desk: &'a mut dyn Desk,

@@ -3,11 +3,13 @@
 
 use super::amount::number;
 use crate::blocks;
-use crate::compare::{Answer, Asked, Date, Lent, Reply, TableAnswer, blank};
+use crate::compare::{Answer, Asked, Date, Lent, Reply, TableAnswer, UtcAnswer, blank};
 use crate::dates::Reading;
-use crate::desk::Converted;
+use crate::desk::{Converted, Written};
+use crate::generate::REAL_LEAPS;
 use crate::refusal::Refusal;
 use crate::table::{Judged, Table};
+use crate::utc::Utc;
 
 /// One call, with what it is lent, and the answer that it must get.
 pub struct Call {
@@ -50,11 +52,11 @@ impl Row<'_> {
     /// None where the row is not understood.
     pub fn read(text: &str) -> Option<Row<'_>> {
         let columns: Vec<&str> = text.split('|').map(str::trim).collect();
-        let [mark, asked, table, answer] = columns.try_into().ok()?;
-        let calls = match (table, asked.strip_prefix("date of ")) {
+        let [mark, asked, over, answer] = columns.try_into().ok()?;
+        let calls = match (over, asked.strip_prefix("date of ")) {
             ("", Some(tick)) => vec![date_written(tick, answer)?],
-            _ if asked.contains(" to ") => vec![conversion(asked, table, answer)?],
-            _ => table_calls(asked, &read_table(table)?, answer)?,
+            _ if asked.contains(" to ") => vec![conversion(asked, over, answer)?],
+            _ => table_calls(asked, &read_table(over)?, answer)?,
         };
         Some(Row { mark, calls })
     }
@@ -96,8 +98,30 @@ fn read_table(text: &str) -> Option<Table> {
     })
 }
 
+/// `leaps=41317,10,41499,11`: a flat list of any length, or `leaps=real`.
+fn read_leaps(text: &str) -> Option<Vec<i64>> {
+    match text.strip_prefix("leaps=")? {
+        "" => Some(Vec::new()),
+        "real" => Some(REAL_LEAPS.to_vec()),
+        numbers => numbers.split(',').map(number).collect(),
+    }
+}
+
+/// A list, a table's bytes, both with a space between, or neither.
+fn read_over(text: &str) -> Option<(Vec<i64>, Vec<u8>)> {
+    let (list, table) = match text.starts_with("leaps=") {
+        true => text.split_once(' ').unwrap_or((text, "")),
+        false => ("leaps=", text),
+    };
+    let bytes = match table {
+        "" => Vec::new(),
+        numbers => blocks::image(&read_table(numbers)?),
+    };
+    Some((read_leaps(list)?, bytes))
+}
+
 /// The names of the codes, from code 1 on.
-const NAMES: [&str; 6] = ["GPS", "TAI", "TT", "TCG", "TDB", "TCB"];
+const NAMES: [&str; 7] = ["GPS", "TAI", "TT", "TCG", "TDB", "TCB", "UTC"];
 
 /// A scale's code, by its name or as `code6`.
 fn code(scale: &str) -> Option<u32> {
@@ -119,10 +143,20 @@ fn parts(text: &str) -> Option<(f64, f64)> {
     Some((first.parse().ok()?, second.parse().ok()?))
 }
 
-/// A date's two parts, `0 s`, or a tick.
+/// `day 41317 0`: a day and ticks in it.
+fn utc(text: &str) -> Option<Utc> {
+    let (day, ticks) = text.strip_prefix("day ")?.split_once(' ')?;
+    let (day, ticks) = (number(day)?, number(ticks)?);
+    Some(Utc { day, ticks })
+}
+
+/// A date's two parts, UTC, `0 s`, or a tick.
 fn reading(text: &str) -> Option<Reading> {
     if let Some((first, second)) = parts(text) {
         return Some(Reading::TwoPart(first, second));
+    }
+    if let Some(utc) = utc(text) {
+        return Some(Reading::Utc(utc));
     }
     match text.strip_suffix(" s") {
         Some(seconds) => Some(Reading::SinceJ2000(seconds.parse().ok()?)),
@@ -130,33 +164,48 @@ fn reading(text: &str) -> Option<Reading> {
     }
 }
 
-/// `-65500, 1 step`
-fn converted(answer: &str) -> Option<Converted> {
-    let (tick, steps) = answer.split_once(", ")?;
+/// `-65500, 1 step`: what came out, and the steps.
+fn with_steps(answer: &str) -> Option<(&str, u32)> {
+    let (answer, steps) = answer.rsplit_once(", ")?;
     let steps = steps
         .strip_suffix(" step")
         .or(steps.strip_suffix(" steps"))?;
-    Some(Converted {
-        tick: number(tick)?,
-        steps: number(steps)?,
-    })
+    Some((answer, number(steps)?))
 }
 
-/// `TCB 0 to TDB`, over a table or over no bytes.
-fn conversion(text: &str, table: &str, answer: &str) -> Option<Call> {
-    let (from, rest) = text.split_once(' ')?;
-    let (given, to) = rest.split_once(" to ")?;
-    let asked = Asked::Convert {
-        from: code(from)?,
-        to: code(to)?,
-        reading: reading(given)?,
+fn converted(answer: &str) -> Option<Converted> {
+    let (tick, steps) = with_steps(answer)?;
+    let tick = number(tick)?;
+    Some(Converted { tick, steps })
+}
+
+/// `day 41317 0, 1 step`
+fn utc_written(answer: &str) -> Option<Written> {
+    let (written, steps) = with_steps(answer)?;
+    let utc = utc(written)?;
+    Some(Written { utc, steps })
+}
+
+/// `TCB 0 to TDB`, over a list, a table, both or neither. A tick `to UTC` is
+/// written.
+fn conversion(text: &str, over: &str, answer: &str) -> Option<Call> {
+    let (from_name, rest) = text.split_once(' ')?;
+    let (given, to_name) = rest.split_once(" to ")?;
+    let (from, to) = (code(from_name)?, code(to_name)?);
+    let (list, bytes) = read_over(over)?;
+    let (asked, expected) = match (reading(given)?, to_name) {
+        (Reading::Ticks(tick), "UTC") => {
+            let expected = UtcAnswer::from(outcome(answer, utc_written)?);
+            (Asked::WriteUtc { from, to, tick }, Reply::Utc(expected))
+        }
+        (reading, _) => {
+            let expected = Answer::from(outcome(answer, converted)?);
+            let asked = Asked::Convert { from, to, reading };
+            (asked, Reply::Answer(expected))
+        }
     };
-    let bytes = match table {
-        "" => Vec::new(),
-        numbers => blocks::image(&read_table(numbers)?),
-    };
-    let expected = Answer::from(outcome(answer, converted)?);
-    Some(Call::plain(asked, bytes, Reply::Answer(expected)))
+    let call = Call::plain(asked, bytes, expected);
+    Some(Call { list, ..call })
 }
 
 fn date_written(tick: &str, answer: &str) -> Option<Call> {

@@ -1,15 +1,16 @@
 -- `batch::batch` meets its contract. Assumes nothing.
 use mathlib.Core.Path.{_≡_, sym, _∙_}
 use borrow.Author.Tests.{eqb-true}
+use mathlib.Core.Bool.{true}
 use lib.Dec.{eqb}
 use lib.ListN.{length}
 use borrow.Author.Needs.{needs}
 use Rattle.scales.specs.declared.scale.Purpose.the-variants as P
 use Rattle.desk.specs.declared.asked.Asked.the-variants as A
 use Rattle.desk.specs.Inner.{askedOf}
-use Rattle.desk.proofs.Asking.{asked-fits}
+use Rattle.desk.proofs.Asking.{plain-sound, crossing-sound}
 use Rattle.walk.proofs.Holding.{nothing-held}
-use Rattle.batch.proofs.Batches.{asked-alone, plain-sound, crossing-sound, has-refused, has-converted}
+use Rattle.batch.proofs.Batches.{batch-fits, asked-alone, has-refused, has-converted}
 use Rattle.batch.proofs.batch.Statement.{statement}
 use Rattle.batch.proofs.batch.Tie as tie
 
@@ -18,26 +19,26 @@ module _ (c : tie.After-start) where
   abbrev start : tie.Start
   start = c .before .before .before .before
 
-  plain : askedOf P.Batch (start .args .from) (start .args .to)
-      (eqb (length (start .args .ticks .now)) (length (start .args .answers .now)))
+  plain : askedOf P.Batch P.Batch (start .args .from) (start .args .to)
+      (eqb (length (start .args .ticks .now)) (length (start .args .answers .now))) true
       ≡ A.Plain (c .start .given .0 .0) (c .start .given .0 .1 .0)
   plain = sym (c .before .before .asked-of .ensures) ∙ c .start .given .1
 
   long : length (start .args .answers .now) ≡ length (start .args .ticks .now)
-  long = sym (eqb-true _ _ (asked-fits _ _ _ _ _ plain (plain-sound _ _)))
+  long = sym (eqb-true _ _ (batch-fits _ _ _ _ plain (plain-sound _ _)))
 
 -- a path that crosses
 module _ (c : tie.After-start2) where
   abbrev start2 : tie.Start
   start2 = c .before .before .before .before
 
-  crossing : askedOf P.Batch (start2 .args .from) (start2 .args .to)
-      (eqb (length (start2 .args .ticks .now)) (length (start2 .args .answers .now)))
+  crossing : askedOf P.Batch P.Batch (start2 .args .from) (start2 .args .to)
+      (eqb (length (start2 .args .ticks .now)) (length (start2 .args .answers .now))) true
       ≡ A.Crossing (c .start2 .given .0 .0) (c .start2 .given .0 .1 .0)
   crossing = sym (c .before .before .asked-of .ensures) ∙ c .start2 .given .1
 
   long2 : length (start2 .args .answers .now) ≡ length (start2 .args .ticks .now)
-  long2 = sym (eqb-true _ _ (asked-fits _ _ _ _ _ crossing (crossing-sound _ _)))
+  long2 = sym (eqb-true _ _ (batch-fits _ _ _ _ crossing (crossing-sound _ _)))
 
 asked-of-requires : tie.Need-asked-of-requires
 asked-of-requires c κs = search needs

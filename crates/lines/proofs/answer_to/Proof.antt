@@ -11,7 +11,6 @@ use Rattle.scales.specs.declared.answer.Answer.{Answer}
 use Rattle.scales.specs.declared.answer.Answer.the-variants as A
 use Rattle.scales.specs.declared.refusal.Refusal.{Refusal}
 use Rattle.blocks.specs.declared.answer.Judged.{Judged}
-use Rattle.dates.specs.declared.reading.Reading.the-variants.{Ticks}
 use Rattle.scales.specs.declared.scale.Purpose.the-variants as P
 use Rattle.desk.specs.Conversion.{convertJudged}
 use Rattle.line.specs.declared.reading.Line.{Line}
@@ -26,7 +25,7 @@ module _ {line : Line} (table : Judged) (coefficients : List ℤ) where
   -- a line that is understood
   understood : {from to tick : ℤ} {first second : ℕ} {answer : Answer} → line ≡ Numbers from to tick
       → first ≡ codeOf from → second ≡ codeOf to
-      → answer ≡ convertJudged P.Line first second (Ticks tick) table coefficients
+      → answer ≡ convertJudged P.Line first second tick table coefficients
       → _≡_ {A = Answered} (record { to = to; answer = answer }) (answeredTo table coefficients line)
   understood read one two converted = rw (read, ← one, ← two, ← converted)
 

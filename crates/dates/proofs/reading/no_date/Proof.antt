@@ -6,7 +6,7 @@ use mathlib.Core.Path.{_≡_, sym, _∙_}
 use mathlib.Core.Bool.{true, false}
 use lib.Ieee.Scale.{finite}
 use Rattle.dates.specs.Doubles.{beyond}
-use Rattle.dates.specs.Readings.{readOf, mostDays}
+use Rattle.dates.specs.Readings.{readOfParts, mostDays}
 use Rattle.dates.proofs.reading.no_date.Statement.{statement}
 use Rattle.dates.proofs.reading.no_date.Tie as tie
 
@@ -17,7 +17,7 @@ refused-requires : tie.Need-refused-requires
 refused-requires c κs = search needs
 
 returns : tie.Need-returns
-unfolding readOf
+unfolding readOfParts
 returns c =
     let f = c .before .before in
     let n : finite (f .before .args .first) ≡ false = sym (f .is-finite .ensures) ∙ not-true _ (c .before .if1 .taken) in
@@ -33,7 +33,7 @@ refused-requires-2 : tie.Need-refused-requires-2
 refused-requires-2 c κs = search needs
 
 returns-2 : tie.Need-returns-2
-unfolding readOf
+unfolding readOfParts
 returns-2 c =
     let f = c .before .before in
     let d = f .before in
@@ -50,7 +50,7 @@ refused-requires-3 : tie.Need-refused-requires-3
 refused-requires-3 c κs = search needs
 
 returns-3 : tie.Need-returns-3
-unfolding readOf
+unfolding readOfParts
 returns-3 c =
     let g = c .before .before in
     let e = g .before in
@@ -66,7 +66,7 @@ refused-requires-4 : tie.Need-refused-requires-4
 refused-requires-4 c κs = search needs
 
 returns-4 : tie.Need-returns-4
-unfolding readOf
+unfolding readOfParts
 returns-4 c =
     let f = c .before in
     let e = f .before .before in

@@ -7,7 +7,7 @@ use mathlib.Core.Bool.{true, false}
 use lib.Dec.{lit≤}
 use lib.Ieee.Scale.{finite}
 use Rattle.dates.specs.Doubles.{beyond}
-use Rattle.dates.specs.Readings.{inRange, readOf, mostSeconds}
+use Rattle.dates.specs.Readings.{readOfSeconds, inRange, mostSeconds}
 use Rattle.dates.specs.Inner.{SpanWithin}
 use Rattle.dates.proofs.Spans.{j2000Span, looser, sum-sized, seconds-worth}
 use Rattle.dates.proofs.Values.{passes}
@@ -21,7 +21,7 @@ refused-requires : tie.Need-refused-requires
 refused-requires c κs = search needs
 
 returns : tie.Need-returns
-unfolding readOf
+unfolding readOfSeconds
 returns c =
     let f = c .before .before in
     let n : finite (f .before .args .seconds) ≡ false = sym (f .is-finite .ensures) ∙ not-true _ (c .before .if1 .taken) in
@@ -37,7 +37,7 @@ refused-requires-2 : tie.Need-refused-requires-2
 refused-requires-2 c κs = search needs
 
 returns-2 : tie.Need-returns-2
-unfolding readOf
+unfolding readOfSeconds
 returns-2 c =
     let g = c .before .before in
     let e = g .before in
@@ -66,7 +66,7 @@ placed-requires c κs = (
 )
 
 returns-3 : tie.Need-returns-3
-unfolding readOf
+unfolding readOfSeconds
 returns-3 c =
     let p = c .before in
     let t = p .before in

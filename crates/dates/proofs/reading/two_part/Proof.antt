@@ -6,7 +6,7 @@ use mathlib.Core.Path.{_≡_, refl, sym, ap, _∙_}
 use mathlib.Core.Bool.{true}
 use lib.Dec.{lit≤}
 use Rattle.numbers.proofs.Flags as flags
-use Rattle.dates.specs.Readings.{inRange, readOf, mostDays}
+use Rattle.dates.specs.Readings.{readOfParts, inRange, mostDays}
 use Rattle.dates.specs.Inner.{SpanWithin, passing}
 use Rattle.dates.proofs.Spans.{originSpan, looser, sum-sized, date-worth}
 use Rattle.dates.proofs.Values.{readable, finite-then, within-then}
@@ -58,7 +58,7 @@ placed-requires c κs = (
 )
 
 returns-2 : tie.Need-returns-2
-unfolding readOf
+unfolding readOfParts
 returns-2 c =
     let q = c .before in
     let p = q .before in

@@ -10,7 +10,7 @@ use Rattle.desk.proofs.asked.asked_of.Tie as tie
 
 -- the first scale, where the second code is looked at
 from-is : (c : tie.After-known-told2) → let s = c .before .before .before .before .args in
-    scaleOf (s .purpose) (s .from) 0 ≡ N.Scale (c .before .start .given .0 .0)
+    scaleOf (s .reads) (s .from) 0 ≡ N.Scale (c .before .start .given .0 .0)
 from-is c = sym (c .before .before .before .scale-of .ensures) ∙ c .before .start .given .1
 
 scale-of-requires : tie.Need-scale-of-requires
@@ -37,17 +37,17 @@ asked-between-requires c κs = search needs
 returns : tie.Need-returns
 returns c =
     let a = c .before .before .before in
-    from-refused _ _ _ _ _ (sym (a .scale-of .ensures) ∙ c .before .refusal .given .1)
+    from-refused _ _ _ _ _ _ _ (sym (a .scale-of .ensures) ∙ c .before .refusal .given .1)
 
 returns-2 : tie.Need-returns-2
 returns-2 c =
     let b = c .before .before .before in
-    to-refused _ _ _ _ _ (from-is (b .before)) _ (sym (b .scale-of2 .ensures) ∙ c .before .refusal2 .given .1)
+    to-refused _ _ _ _ _ _ _ (from-is (b .before)) _ (sym (b .scale-of2 .ensures) ∙ c .before .refusal2 .given .1)
 
 returns-3 : tie.Need-returns-3
 returns-3 c =
     let b = c .before .before .before .before in
-    c .asked-between .ensures ∙ both-named _ _ _ _ _ (from-is (b .before)) _ (sym (b .scale-of2 .ensures) ∙ c .before .before .end .given .1)
+    c .asked-between .ensures ∙ both-named _ _ _ _ _ _ _ (from-is (b .before)) _ (sym (b .scale-of2 .ensures) ∙ c .before .before .end .given .1)
 
 pub asked-of-spec : {M : Type 1} → statement M
 asked-of-spec =

@@ -8,8 +8,8 @@ use mir.ValLaws.{toZ-ofZ}
 use Rattle.scales.specs.declared.answer.Answer.the-variants.{Refused}
 use Rattle.scales.specs.declared.refusal.Refusal.{Refusal}
 use Rattle.scales.specs.declared.scale.Scale.{Scale}
-use Rattle.dates.specs.declared.reading.Read.{Read}
-use Rattle.dates.specs.declared.reading.Read.the-variants as R
+use Rattle.scales.specs.declared.answer.Read.{Read}
+use Rattle.scales.specs.declared.answer.Read.the-variants as R
 use Rattle.walk.specs.declared.kept.Kept.{Kept}
 use Rattle.walk.specs.Walk.{walkBetween}
 use Rattle.desk.specs.Conversion.{betweenOf}

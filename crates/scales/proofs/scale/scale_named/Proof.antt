@@ -30,6 +30,9 @@ returns-6 c = rw (c .match .keys6)
 returns-7 : tie.Need-returns-7
 returns-7 c = rw (c .match .keys7)
 
+returns-8 : tie.Need-returns-8
+returns-8 c = rw (c .match .keys8)
+
 -- what is none of the numbers before is past the end of the list of codes, and names what stands
 -- there
 abbrev NoneBelow : ℕ → ℕ → Type 0
@@ -46,8 +49,8 @@ above n (suc k) none = past k n (above n k (none .0)) (none .1)
 no-code : (n : ℕ) → length coded ≤ n → named n ≡ Tt
 no-code n h = List·getD-eq-default coded Tt h
 
-returns-8 : tie.Need-returns-8
-returns-8 c = let n = c .before .args .code in sym (no-code n (above n (length coded) (c .match .rest)))
+returns-9 : tie.Need-returns-9
+returns-9 c = let n = c .before .args .code in sym (no-code n (above n (length coded) (c .match .rest)))
 
 pub scale-named-spec : {M : Type 1} → statement M
-scale-named-spec = tie.close (tie.spec returns returns-2 returns-3 returns-4 returns-5 returns-6 returns-7 returns-8)
+scale-named-spec = tie.close (tie.spec returns returns-2 returns-3 returns-4 returns-5 returns-6 returns-7 returns-8 returns-9)

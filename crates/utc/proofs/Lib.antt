@@ -1,0 +1,15 @@
+pub mod Beside
+pub mod Fitting
+pub mod Last
+pub mod Rules
+pub mod Standing
+pub mod Tiling
+pub mod Within
+pub mod Counted
+pub mod Latest
+pub mod Accepted
+pub mod ThereAndBack
+pub mod InOrder
+pub mod Refusals
+pub mod Lengths
+pub mod Known

@@ -1,0 +1,5 @@
+pub mod Leaps
+pub mod Days
+pub mod Readings
+pub mod Answers
+pub mod Asked
