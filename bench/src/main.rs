@@ -9,10 +9,12 @@ mod plain_c;
 mod rows;
 mod timing;
 
-use rows::{batches, dates, lines, tables};
+use rows::{batches, dates, lines, tables, utc};
 
 /// "table.blk", a table as a host would load it.
 const TABLE: &[u8] = include_bytes!("../../examples/table.blk");
+/// The leap seconds, as a host would load them.
+const LEAPS: &str = include_str!("../../examples/leaps.txt");
 
 fn main() {
     if std::env::args().nth(1).as_deref() == Some("tickline") {
@@ -23,6 +25,7 @@ fn main() {
     batches::rows(TABLE);
     tables::row(TABLE);
     dates::rows();
+    utc::rows(LEAPS);
     lines::rows(TABLE);
     println!();
     println!("| growth of ours | sizes | ns for each |");

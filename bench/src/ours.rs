@@ -21,6 +21,16 @@ pub struct Date {
 
 #[repr(C)]
 #[derive(Clone, Copy, Debug, PartialEq)]
+pub struct Utc {
+    pub number: u32,
+    pub steps: u32,
+    pub place: u64,
+    pub day: i64,
+    pub ticks: i64,
+}
+
+#[repr(C)]
+#[derive(Clone, Copy, Debug, PartialEq)]
 pub struct Table {
     pub number: u32,
     pub count: u32,
@@ -31,7 +41,7 @@ pub struct Table {
 }
 
 mod archive {
-    use super::{Answer, Date, Table};
+    use super::{Answer, Date, Table, Utc};
 
     unsafe extern "C" {
         pub fn colliedash_judge(table: *const u8, table_len: usize) -> Table;
@@ -54,6 +64,25 @@ mod archive {
             table: *const u8,
             table_len: usize,
         ) -> Answer;
+        pub fn colliedash_convert_utc(
+            from: u32,
+            to: u32,
+            day: i64,
+            ticks: i64,
+            leaps: *const i64,
+            leaps_len: usize,
+            table: *const u8,
+            table_len: usize,
+        ) -> Answer;
+        pub fn colliedash_write_utc(
+            from: u32,
+            to: u32,
+            tick: i64,
+            leaps: *const i64,
+            leaps_len: usize,
+            table: *const u8,
+            table_len: usize,
+        ) -> Utc;
         pub fn colliedash_batch(
             from: u32,
             to: u32,
@@ -98,6 +127,20 @@ pub fn write_table(table: Table, coefficients: &[i64]) -> Vec<u8> {
 /// A date, along a path that looks at no table.
 pub fn convert_date(from: u32, to: u32, first: f64, second: f64) -> Answer {
     unsafe { archive::colliedash_convert_date(from, to, first, second, std::ptr::null(), 0) }
+}
+
+/// A UTC reading, along a path that looks at no table.
+pub fn convert_utc(from: u32, to: u32, day: i64, ticks: i64, leaps: &[i64]) -> Answer {
+    let (list, many) = (leaps.as_ptr(), leaps.len());
+    unsafe {
+        archive::colliedash_convert_utc(from, to, day, ticks, list, many, std::ptr::null(), 0)
+    }
+}
+
+/// A tick written as UTC, along such a path.
+pub fn write_utc(from: u32, to: u32, tick: i64, leaps: &[i64]) -> Utc {
+    let (list, many) = (leaps.as_ptr(), leaps.len());
+    unsafe { archive::colliedash_write_utc(from, to, tick, list, many, std::ptr::null(), 0) }
 }
 
 pub fn batch(from: u32, to: u32, ticks: &[i64], answers: &mut [i64], table: &[u8]) -> Answer {

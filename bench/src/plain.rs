@@ -8,6 +8,7 @@ pub mod judge;
 pub mod line;
 pub mod scales;
 pub mod table;
+pub mod utc;
 
 /// A refusal: its number, its place, and for a batch the index of the entry.
 #[derive(Clone, Copy, Debug, PartialEq)]

@@ -4,6 +4,7 @@ pub mod batches;
 pub mod dates;
 pub mod lines;
 pub mod tables;
+pub mod utc;
 
 use crate::timing::{Side, median, times};
 
@@ -22,6 +23,23 @@ fn print_row(case: &str, many: usize, rounds: usize, mut sides: Vec<Side>) {
         .collect();
     let c = each.get(2).map_or("", String::as_str);
     println!("| {case} | {} | {} | {ratio:.2} | {c} |", each[0], each[1]);
+}
+
+/// Hands every entry to one side and keeps what a host wants of the answer.
+fn each<'a, I: Copy, O>(
+    given: &'a [I],
+    kept: &'a mut [O],
+    side: impl Fn(I) -> Option<O> + 'a,
+) -> Side<'a> {
+    Box::new(move || {
+        for (kept, given) in kept.iter_mut().zip(given) {
+            *kept = side(*given).expect("an accepted one");
+        }
+    })
+}
+
+fn accepted<T>(number: u32, answer: T) -> Option<T> {
+    (number == 0).then_some(answer)
 }
 
 /// Times ours at each size, so many times over, and prints what one of so many takes.

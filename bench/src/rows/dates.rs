@@ -1,11 +1,10 @@
 //! Dates read and written, a call each on every side.
 
-use super::{ROUNDS, print_row};
+use super::{ROUNDS, accepted, each, print_row};
 use crate::inputs::at_random;
 use crate::plain::Refusal;
 use crate::plain::convert::convert_date;
 use crate::plain::dates::write;
-use crate::timing::Side;
 use crate::{ours, plain_c};
 use std::hint::black_box;
 
@@ -51,23 +50,6 @@ fn compare_converted(first: f64, second: f64) {
         let refused = |r: Refusal| (r.number, r.place, 0, 0);
         assert_eq!(told, rust.map_or_else(refused, converted));
     }
-}
-
-/// Hands every entry to one side and keeps what a host wants of the answer.
-fn each<'a, I: Copy, O>(
-    given: &'a [I],
-    kept: &'a mut [O],
-    side: impl Fn(I) -> Option<O> + 'a,
-) -> Side<'a> {
-    Box::new(move || {
-        for (kept, given) in kept.iter_mut().zip(given) {
-            *kept = side(*given).expect("an accepted one");
-        }
-    })
-}
-
-fn accepted<T>(number: u32, answer: T) -> Option<T> {
-    (number == 0).then_some(answer)
 }
 
 pub fn rows() {

@@ -110,5 +110,5 @@ module _ (from to : ℕ) (ticks answers : List ℤ) (bytes : List ℕ) where
       let is = batch-asked from to ticks (length answers) bytes asked e in
       let entries = map-same (λ tick. answerTick (convertAsked asked (inRange tick) (judged bytes) (coefficientsIn bytes)))
       (λ tick. answerTick (convertOf from to (Ticks tick) [] bytes))
-      (λ tick. ap answerTick (into P.Reading from to (Ticks tick) [] bytes P.Reading true true asked (inRange tick) refl refl refl d refl)) ticks in
+      (λ tick. ap answerTick (into P.Reading from to (Ticks tick) [] bytes P.Reading asked (inRange tick) refl d refl)) ticks in
       record { answer = filled .is ∙ is; list = filled .list ∙ rw (is, entries) }

@@ -8,6 +8,7 @@ use native.Mathlib.Omega.{arith}
 use lib.IntN.{ℤ}
 use Rattle.numbers.proofs.Flags.{never}
 use Rattle.scales.specs.declared.answer.Answer.{Answer}
+use Rattle.scales.specs.declared.answer.Answer.the-variants.{Refused}
 use Rattle.scales.specs.declared.refusal.Refusal.{Refusal}
 use Rattle.scales.specs.declared.scale.Named.the-variants as N
 use Rattle.scales.specs.declared.scale.Purpose.{Purpose}
@@ -22,6 +23,7 @@ use Rattle.scales.specs.declared.answer.Read.{Read}
 use Rattle.scales.specs.declared.answer.Read.the-variants as R
 use Rattle.walk.specs.declared.kept.Kept.{Kept}
 use Rattle.walk.specs.declared.kept.Kept.the-variants as K
+use Rattle.walk.specs.Walk.{walkBetween}
 use Rattle.walk.proofs.Unseen.{walk-unseen}
 use Rattle.desk.specs.declared.asked.Asked.{Asked}
 use Rattle.desk.specs.declared.asked.Asked.the-variants as A
@@ -30,7 +32,7 @@ use Rattle.desk.specs.Order.{ifCrossed, settled, leapsFit, leapsRight}
 use Rattle.desk.specs.Conversion.{answering, started, betweenOf, heldBy}
 use Rattle.desk.specs.Conversion.{convertRead, convertJudged, convertInto}
 use Rattle.opened.specs.Opened.{coefficientsIn}
-use Rattle.desk.specs.Inner.{askedBy, askedOf, lentChecks, convertAsked}
+use Rattle.desk.specs.Inner.{askedBy, askedOf, lentChecks, convertAsked, askedOver}
 
 -- ---- a code and its scale
 module _ (purpose : Purpose) (code place : ℕ) where
@@ -175,6 +177,16 @@ settled-lent reads writes from to fits right table e = by (fits && right) refl
         let impossible : ⊥ = omega arith in
         absurd impossible
 
+-- ---- what was read, case by case
+module _ (from to : Scale) (kept : Kept) (cs : List ℤ) where
+  pub between-tick : (tick : ℤ) → walkBetween kept cs from to tick ≡ betweenOf from to (R.Tick tick) kept cs
+  unfolding betweenOf
+  between-tick tick = refl
+
+  pub between-refusal : (refusal : Refusal) → Refused refusal ≡ betweenOf from to (R.Refused refusal) kept cs
+  unfolding betweenOf
+  between-refusal refusal = refl
+
 -- ---- 'A path that doesn't cross never looks at the table'
 module _ (start end : Scale) where
   started-same : (walk walk' : ℤ → Answer) → ((tick : ℤ) → walk tick ≡ walk' tick) → (read : Read)
@@ -213,11 +225,11 @@ of-tick purpose from to tick table cs asked read is was =
     rw (← was) (by-asked from to table cs purpose purpose true true asked read is)
 
 pub into : (writes : Purpose) (from to : ℕ) (reading : Reading) (leaps : List ℤ) (bytes : List ℕ) (reads : Purpose)
-    (fits right : Bool) (asked : Asked) (read : Read) → reads ≡ purposeOf reading → fits ≡ leapsFit reads writes leaps
-    → right ≡ leapsRight reads writes leaps → askedOf reads writes from to fits right ≡ asked
+    (asked : Asked) (read : Read) → reads ≡ purposeOf reading
+    → askedOf reads writes from to (leapsFit reads writes leaps) (leapsRight reads writes leaps) ≡ asked
     → read ≡ readOf leaps reading
-    → convertAsked asked read (judged bytes) (coefficientsIn bytes) ≡ convertInto writes from to reading leaps bytes
+    → askedOver asked read bytes ≡ convertInto writes from to reading leaps bytes
 unfolding convertInto
-into writes from to reading leaps bytes reads fits right asked read reads-is fits-is right-is is was =
-    rw (← reads-is, ← fits-is, ← right-is, ← was)
-    (by-asked from to (judged bytes) (coefficientsIn bytes) reads writes fits right asked read is)
+into writes from to reading leaps bytes reads asked read reads-is is was =
+    rw (← reads-is, ← was)
+    (by-asked from to (judged bytes) (coefficientsIn bytes) reads writes (leapsFit reads writes leaps) (leapsRight reads writes leaps) asked read is)

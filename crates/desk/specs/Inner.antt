@@ -53,3 +53,6 @@ takenOver from to read bytes table =
 
 abbrev pub overBytes : Scale → Scale → Read → List ℕ → Answer
 overBytes from to read bytes = crossedOf from to read (judged bytes) (coefficientsIn bytes)
+
+abbrev pub askedOver : Asked → Read → List ℕ → Answer
+askedOver asked read bytes = convertAsked asked read (judged bytes) (coefficientsIn bytes)

@@ -3,8 +3,7 @@
 // and 5 after 3.
 use crate::asked::Asked;
 use crate::asked::asked_of;
-use crate::leaps::leaps_fit;
-use crate::leaps::leaps_right;
+use crate::leaps::asked_over;
 use blocks::answer::Judged;
 use blocks::judging::judge;
 use dates::reading::Reading;
@@ -18,17 +17,17 @@ use scales::answer::Answer;
 use scales::answer::Epoch;
 use scales::answer::Read;
 use scales::path::is_one_scale;
+use scales::refusal::Refusal;
 use scales::scale::Purpose;
 use scales::scale::Scale;
 use walk::kept::Kept;
 use walk::walk::walk;
 ghost use mathlib.Core.Path.{_≡_};
-ghost use mathlib.Core.List.{[]};
-ghost use Rattle.walk.specs.declared.kept.Kept.the-variants.{Nothing};
+ghost use Rattle.scales.specs.declared.answer.Read.the-variants as R;
 ghost use Rattle.walk.specs.Inner.{Held};
 ghost use Rattle.opened.specs.Opened.{Opened, Lent};
 ghost use Rattle.desk.specs.Conversion.{betweenOf, convertInto, convertOf, convertJudged};
-ghost use Rattle.desk.specs.Inner.{crossedOf, overBytes, takenOver};
+ghost use Rattle.desk.specs.Inner.{askedOver, crossedOf, overBytes, takenOver};
 
 // What was read, walked. The coefficients are those of the table that is kept.
 pub fn between(from: Scale, to: Scale, read: Read, kept: Kept, coefficients: &[i64]) -> Answer
@@ -52,7 +51,7 @@ fn taken_over(from: Scale, to: Scale, read: Read, bytes: &[u8], table: Table) ->
 }
 
 // Over any bytes. This has room for the largest table, which no other conversion should pay for: a
-// compiler keeps it apart as long as it is called for a tick and for a refusal.
+// compiler keeps it apart as long as two functions call it, one for a tick and one for a refusal.
 fn over_bytes(from: Scale, to: Scale, read: Read, bytes: &[u8]) -> Answer
     ensures { λ r. ⌜ r ≡ overBytes from to read (now (bytes .entry)) ⌝ }
 {
@@ -62,36 +61,33 @@ fn over_bytes(from: Scale, to: Scale, read: Read, bytes: &[u8]) -> Answer
     }
 }
 
-// On a path that needs no table. Into its own scale a tick goes as it is, which is all that a
-// reading by itself takes: that answer is returned at once.
-fn convert_plain(from: Scale, to: Scale, read: Read) -> Answer
-    ensures { λ r. ⌜ r ≡ betweenOf from to read Nothing [] ⌝ }
+// A tick that was read, walked; over the table if the path crosses.
+fn convert_tick(asked: Asked, tick: i64, table: &[u8]) -> Answer
+    ensures { λ r. ⌜ r ≡ askedOver asked (R.Tick tick) (now (table .entry)) ⌝ }
 {
-    match read {
-        Read::Tick(tick) => {
-            if is_one_scale(from, to) {
-                return Answer::Converted(Epoch { scale: from, tick }, 0);
-            }
-            walk(from, to, tick, Kept::Nothing, &[])
-        }
-        Read::Refused(refusal) => Answer::Refused(refusal),
+    match asked {
+        Asked::Plain(start, end) => walk(start, end, tick, Kept::Nothing, &[]),
+        Asked::Crossing(start, end) => over_bytes(start, end, Read::Tick(tick), table),
+        Asked::Refused(refusal) => Answer::Refused(refusal),
     }
 }
 
-// On one that crosses: the table's refusals come before the reading's.
-fn convert_crossing(from: Scale, to: Scale, read: Read, table: &[u8]) -> Answer
-    ensures { λ r. ⌜ r ≡ overBytes from to read (now (table .entry)) ⌝ }
+// A reading that was refused: the table's refusals come before it.
+fn refuse(asked: Asked, refusal: Refusal, table: &[u8]) -> Answer
+    ensures { λ r. ⌜ r ≡ askedOver asked (R.Refused refusal) (now (table .entry)) ⌝ }
 {
-    match read {
-        Read::Tick(tick) => over_bytes(from, to, Read::Tick(tick), table),
-        Read::Refused(refusal) => over_bytes(from, to, Read::Refused(refusal), table),
+    match asked {
+        Asked::Plain(_, _) => Answer::Refused(refusal),
+        Asked::Crossing(start, end) => over_bytes(start, end, Read::Refused(refusal), table),
+        Asked::Refused(earlier) => Answer::Refused(earlier),
     }
 }
 
 // Converts a reading in the scale of the first code into the scale of the second, in ticks, over
 // the table that the bytes hold, whatever the second code is read for; or tells the refusal. 'A
 // path that doesn't cross never looks at the table', and what has no use for the list of leap
-// seconds never looks at that.
+// seconds never looks at that. Into its own scale a tick goes as it is, which is all that a reading
+// by itself takes: that is answered before the table is handed on.
 pub fn convert_into(
     writes: Purpose,
     from: u32,
@@ -103,15 +99,20 @@ pub fn convert_into(
     ensures { λ r. ⌜
         r ≡ convertInto writes from to reading (now (leaps .entry)) (now (table .entry)) ⌝ }
 {
-    let reads = purpose_of(reading);
-    let fits = leaps_fit(reads, writes, leaps);
-    let right = leaps_right(reads, writes, leaps);
-    match asked_of(reads, writes, from, to, fits, right) {
-        Asked::Plain(start, end) => convert_plain(start, end, tick_of(reading, leaps)),
-        Asked::Crossing(start, end) => {
-            convert_crossing(start, end, tick_of(reading, leaps), table)
+    let asked = asked_over(purpose_of(reading), writes, from, to, leaps);
+    if let Asked::Refused(refusal) = asked {
+        return Answer::Refused(refusal);
+    }
+    match tick_of(reading, leaps) {
+        Read::Tick(tick) => {
+            if let Asked::Plain(start, end) = asked {
+                if is_one_scale(start, end) {
+                    return Answer::Converted(Epoch { scale: start, tick }, 0);
+                }
+            }
+            convert_tick(asked, tick, table)
         }
-        Asked::Refused(refusal) => Answer::Refused(refusal),
+        Read::Refused(refusal) => refuse(asked, refusal, table),
     }
 }
 

@@ -16,12 +16,6 @@ pub <-trans : (x y z : ℤ) → x <ℤ y → y <ℤ z → x <ℤ z
 pub up : (x y : ℤ) → x ≤ℤ y → x ≤ℤ (y +ℤ pos 1)
 up = rep₂ _ (λ a b c d. simp lin (omega arith))
 
-pub below-next : (x : ℤ) → x ≤ℤ (x +ℤ pos 1)
-below-next = rep _ (λ a b. simp lin (omega arith))
-
-pub up-to : (x y : ℤ) → x <ℤ y → (x +ℤ pos 1) ≤ℤ y
-up-to = rep₂ _ (λ a b c d. simp lin (omega arith))
-
 pub is-next : (x y : ℤ) → x <ℤ y → y ≤ℤ (x +ℤ pos 1) → y ≡ x +ℤ pos 1
 is-next = rep₂ _ (λ a b c d. simp lin (omega arith))
 

@@ -31,6 +31,16 @@ pub record Right (leaps : List ℤ) : Type 0 where
 none-apart : (x y : ℤ) → gap x y ≡ 0 → x ≡ y
 none-apart = rep₂ _ (λ a b c d. simp sizes (omega arith))
 
+-- 'starts with day 41317 and 10 s'
+pub starts : (leaps : List ℤ) → isStartRight leaps ≡ true
+    → (firstDay leaps 0 ≡ pos listDay) × (seconds leaps 0 ≡ pos listSeconds)
+unfolding isStartRight
+starts leaps e =
+    let b = both (eqb (gap (firstDay leaps 0) (pos listDay)) 0) (eqb (gap (seconds leaps 0) (pos listSeconds)) 0) e in (
+      none-apart (firstDay leaps 0) (pos listDay) (eqb-true _ 0 (b .0)),
+      none-apart (seconds leaps 0) (pos listSeconds) (eqb-true _ 0 (b .1)),
+    )
+
 each : (leaps : List ℤ) → every (isNextRight leaps) (entries leaps - 1) ≡ true → (k : ℕ) → suc k < entries leaps
     → (ltZ (firstDay leaps k) (firstDay leaps (suc k)) ≡ true)
     × (eqb (gap (seconds leaps k) (seconds leaps (suc k))) 1 ≡ true)
@@ -40,17 +50,17 @@ each leaps e k h =
     (every-at (isNextRight leaps) (entries leaps - 1) k e (omega arith))
 
 pub right : (leaps : List ℤ) → isListRight leaps ≡ true → Right leaps
-unfolding isListRight isCountRight isStartRight
+unfolding isListRight isCountRight
 right leaps e =
     let outer = both (isCountRight leaps && isStartRight leaps) (every (isNextRight leaps) (entries leaps - 1)) e in
     let inner = both (isCountRight leaps) (isStartRight leaps) (outer .0) in
     let counted = both (leb 1 (entries leaps)) (leb (entries leaps) mostEntries) (inner .0) in
-    let begun = both (eqb (gap (firstDay leaps 0) (pos listDay)) 0) (eqb (gap (seconds leaps 0) (pos listSeconds)) 0) (inner .1) in
+    let begun = starts leaps (inner .1) in
     record {
       some = leb-true 1 (entries leaps) (counted .0);
       few = leb-true (entries leaps) mostEntries (counted .1);
-      day = none-apart (firstDay leaps 0) (pos listDay) (eqb-true _ 0 (begun .0));
-      first = none-apart (seconds leaps 0) (pos listSeconds) (eqb-true _ 0 (begun .1));
+      day = begun .0;
+      first = begun .1;
       rises = λ k h. lt-yes _ _ (each leaps (outer .1) k h .0);
       changes = λ k h. eqb-true _ 1 (each leaps (outer .1) k h .1);
     }
@@ -92,6 +102,15 @@ days-rise {leaps} r j (suc k) h l =
     (λ (e : j ≡ k). rw e (r .rises k l))
     (λ (i : j < k). <-trans (firstDay leaps j) (firstDay leaps k) (firstDay leaps (suc k)) (days-rise r j k i (omega arith)) (r .rises k l))
     (eq-or-lt-of-le (le-of-suc-le-suc h))
+
+-- a day before an entry's first is before that of each later one
+pub before-later : {leaps : List ℤ} → Right leaps → (day : ℤ) (j k : ℕ) → j ≤ k → k < entries leaps
+    → day <ℤ firstDay leaps j → day <ℤ firstDay leaps k
+before-later {leaps} r day j k h l b =
+    ⊎-elim
+    (λ (e : j ≡ k). (rw e at b))
+    (λ (i : j < k). <-trans day (firstDay leaps j) (firstDay leaps k) b (days-rise r j k i l))
+    (eq-or-lt-of-le h)
 
 -- ---- seconds
 -- how far they have come from the first

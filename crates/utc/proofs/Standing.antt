@@ -4,7 +4,6 @@ use mathlib.Core.Path.{_≡_, ap}
 use mathlib.Core.List.{List}
 use mathlib.Core.Logic.{_⊎_, inl, inr, ⊎-elim}
 use Prim.Native.Nat.{ℕ, suc, _≤_, _<_}
-use native.Mathlib.Nat.{eq-or-lt-of-le}
 use native.Mathlib.Omega.{arith}
 use lib.IntN.{ℤ, pos, _+ℤ_}
 use lib.Signed.{_≤ℤ_, _<ℤ_, leZ}
@@ -13,10 +12,10 @@ use Rattle.numbers.proofs.Machine.{le-yes, yes-le, no-le}
 use Rattle.numbers.proofs.Order.{le-or-lt, ≤-total}
 use Rattle.utc.specs.Leaps.{gap, entries, firstDay, seconds, listDay}
 use Rattle.utc.specs.Days.{entryOn, secondsOn}
-use Rattle.utc.proofs.Beside.{<-trans, is-next, up}
+use Rattle.utc.proofs.Beside.{is-next, up}
 use Rattle.utc.proofs.Fitting.{le-no}
 use Rattle.utc.proofs.Last.{last-is, last-last}
-use Rattle.utc.proofs.Rules.{Right, Moderate, days-rise, moderate}
+use Rattle.utc.proofs.Rules.{Right, Moderate, moderate, before-later}
 
 pub record Stands (leaps : List ℤ) (day : ℤ) (k : ℕ) : Type 0 where
   pub within : k < entries leaps
@@ -45,14 +44,11 @@ module _ {leaps : List ℤ} (r : Right leaps) where
   unfolding entryOn
   at-entry day k a =
       last-is (λ k. leZ (firstDay leaps k) day) (entries leaps) k
-      (record { within = a .within; holds = yes-le _ _ (a .begun); after = λ j h i. no-le (firstDay leaps j) day (past j h i) })
-    where
-      past : (j : ℕ) → k < j → j < entries leaps → day <ℤ firstDay leaps j
-      past j h i =
-          ⊎-elim
-          (λ (e : suc k ≡ j). (rw e at (a .next)) i)
-          (λ (l : suc k < j). <-trans day (firstDay leaps (suc k)) (firstDay leaps j) (a .next (omega arith)) (days-rise r (suc k) j l i))
-          (eq-or-lt-of-le h)
+      (record {
+        within = a .within;
+        holds = yes-le _ _ (a .begun);
+        after = λ j h i. no-le (firstDay leaps j) day (before-later r day (suc k) j h i (a .next (omega arith)));
+      })
 
   -- the day after is still that entry's, or it is the first of the next one
   pub next-day : (day : ℤ) (k : ℕ) → Stands leaps day k → Stands leaps (day +ℤ pos 1) k ⊎ Turns leaps day k

@@ -3,13 +3,18 @@
 use mathlib.Core.Path.{_≡_}
 use mathlib.Core.Bool.{true}
 use mathlib.Core.List.{List}
-use Prim.Native.Nat.{ℕ, _+_, _*_, _≤_}
+use Prim.Native.Nat.{ℕ, _+_, _*_, _≤_, _<_}
 use lib.IntN.{ℤ, pos, negℤ, natAbs, _+ℤ_, _-ℤ_}
 use lib.Signed.{_≤ℤ_}
 use Rattle.numbers.specs.Rounding.{floorDiv}
 use Rattle.scales.specs.Tick.{furthest, isValid}
-use Rattle.utc.specs.Leaps.{isListRight, listDay}
+use Rattle.utc.specs.Leaps.{entries, seconds, isListRight, listDay}
 use Rattle.utc.specs.Days.{dayTicks, entryOn, secondTicks}
+
+-- an entry that another follows, whose seconds are within 100 of 0
+pub record Followed (leaps : List ℤ) (entry : ℕ) : Type 0 where
+  pub next : entry + 1 < entries leaps
+  pub near : natAbs (seconds leaps entry) ≤ 100
 
 -- a day not before the first of a list that has been judged
 pub record Listed (leaps : List ℤ) (day : ℤ) : Type 0 where

@@ -2,26 +2,24 @@
 use crate::entries::first_day;
 use crate::entries::seconds_of;
 ghost use mathlib.Core.Path.{_≡_};
-ghost use Prim.Native.Nat.{_+_, _<_};
+ghost use Prim.Native.Nat.{_<_, _≤_};
 ghost use lib.Dec.{eqb};
+ghost use lib.IntN.{natAbs};
 ghost use Rattle.utc.specs.Leaps.{gap, entries, isStartRight, isNextRight, isListRight};
+ghost use Rattle.utc.specs.Asked.{Followed};
 
-// 'seconds change by exactly one': the lesser is no largest number, nor the greater a least.
+// 'seconds change by exactly one'. The seconds before are within 100 of 0, as those of a list that
+// was right so far are, so that one more and one less are numbers of 64 bits.
 fn change_by_one(from: i64, to: i64) -> bool
+    requires { ⌜ natAbs from ≤ 100 ⌝ }
     ensures { λ r. ⌜ r ≡ eqb (gap from to) 1 ⌝ }
 {
-    if from < to {
-        return to - 1 <= from;
-    }
-    if to < from {
-        return from <= to + 1;
-    }
-    false
+    to == from + 1 || to == from - 1
 }
 
 // 'days rise strictly and seconds change by exactly one', from an entry to the next.
 fn is_next_right(leaps: &[i64], entry: usize) -> bool
-    requires { ⌜ entry + 1 < entries (now leaps) ⌝ }
+    requires { ⌜ Followed (now leaps) entry ⌝ }
     ensures { λ r. ⌜ r ≡ isNextRight (now (leaps .entry)) entry ⌝ }
 {
     if first_day(leaps, entry) >= first_day(leaps, entry + 1) {
@@ -39,7 +37,8 @@ fn is_start_right(leaps: &[i64]) -> bool
 }
 
 // The list's rule: 'starts with day 41317 and 10 s; days rise strictly and seconds change by
-// exactly one', and it has 1 to 64 pairs.
+// exactly one', and it has 1 to 64 pairs. Two of its entries are followed a turn, since every UTC
+// reading begins with this loop.
 pub fn is_right(leaps: &[i64]) -> bool
     ensures { λ r. ⌜ r ≡ isListRight (now (leaps .entry)) ⌝ }
 {
@@ -51,11 +50,17 @@ pub fn is_right(leaps: &[i64]) -> bool
         return false;
     }
     let mut entry = 0;
-    while entry + 1 < count {
+    while entry + 2 < count {
         if !is_next_right(leaps, entry) {
             return false;
         }
-        entry += 1;
+        if !is_next_right(leaps, entry + 1) {
+            return false;
+        }
+        entry += 2;
+    }
+    if entry + 1 < count {
+        return is_next_right(leaps, entry);
     }
     true
 }

@@ -13,7 +13,7 @@ use Rattle.utc.proofs.leaps.is_next_right.Statement.{statement}
 use Rattle.utc.proofs.leaps.is_next_right.Tie as tie
 
 first-day-requires : tie.Need-first-day-requires
-first-day-requires c κs = search needs
+first-day-requires c κs = let h = c .pre .next in omega arith
 
 add-first-day : tie.Need-add-first-day
 unfolding entries
@@ -51,9 +51,6 @@ add-seconds-of c = omega arith
 seconds-of-requires-2 : tie.Need-seconds-of-requires-2
 seconds-of-requires-2 c κs = search needs
 
-change-by-one-requires : tie.Need-change-by-one-requires
-change-by-one-requires c κs = search needs
-
 -- its seconds, and the next one's
 first : (c : tie.After-seconds-of) → let a = c .before .before .before .before .args in
     read (c .seconds-of .result) ≡ seconds (a .leaps .now) (a .entry)
@@ -62,6 +59,9 @@ first c = read-is _ (record { sfits = c .seconds-of .ok }) ∙ c .seconds-of .en
 second : (c : tie.After-seconds-of2) → let a = c .before .before .before .before .before .args in
     read (c .seconds-of2 .result) ≡ seconds (a .leaps .now) (suc (a .entry))
 second c = rw add-one at (read-is _ (record { sfits = c .seconds-of2 .ok }) ∙ c .seconds-of2 .ensures)
+
+change-by-one-requires : tie.Need-change-by-one-requires
+change-by-one-requires c κs = rw (first (c .before)) (c .before .before .before .before .before .pre .near)
 
 returns-2 : tie.Need-returns-2
 unfolding isNextRight
