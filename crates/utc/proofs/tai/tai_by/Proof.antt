@@ -50,79 +50,56 @@ module _ (seconds day ticks : ℤ) (n : NearReading seconds day ticks) where
       fits-small _ (100000 * dayTicks + 2 * dayTicks + 100 * secondTicks + 32184000000)
       (omega (arith, abs-minus ((day -ℤ pos 43144) *ℤ pos dayTicks +ℤ ticks +ℤ seconds *ℤ pos secondTicks) (pos 32184000000), with-leap-size)) (lit< tt)
 
-seconds-is : (c : tie.Start) → read (c .args .seconds) ≡ c .args .seconds
-seconds-is c = read-is (c .args .seconds) (c .fits .seconds)
+-- what the code holds after each operation is the number itself
+module _ (c : tie.Start) where
+  near : NearReading (c .args .seconds) (c .args .day) (c .args .ticks)
+  near = c .pre
 
-day-is : (c : tie.Start) → read (c .args .day) ≡ c .args .day
-day-is c = read-is (c .args .day) (c .fits .day)
+  day-is : read (c .args .day) ≡ c .args .day
+  day-is = read-is (c .args .day) (c .fits .day)
 
-ticks-is : (c : tie.Start) → read (c .args .ticks) ≡ c .args .ticks
-ticks-is c = read-is (c .args .ticks) (c .fits .ticks)
+  days-are : read (read (c .args .day) -ℤ pos 43144) ≡ c .args .day -ℤ pos 43144
+  days-are = rw day-is (read-is _ (days _ _ _ near))
+
+  product-is : read (read (read (c .args .day) -ℤ pos 43144) *ℤ pos dayTicks)
+      ≡ (c .args .day -ℤ pos 43144) *ℤ pos dayTicks
+  product-is = rw days-are (read-is _ (product _ _ _ near))
+
+  ticks-are : read (c .args .ticks) ≡ c .args .ticks
+  ticks-are = read-is (c .args .ticks) (c .fits .ticks)
+
+  sum-is : read (read (read (read (c .args .day) -ℤ pos 43144) *ℤ pos dayTicks) +ℤ read (c .args .ticks))
+      ≡ (c .args .day -ℤ pos 43144) *ℤ pos dayTicks +ℤ c .args .ticks
+  sum-is = rw (product-is, ticks-are) (read-is _ (sum _ _ _ near))
+
+  seconds-are : read (c .args .seconds) ≡ c .args .seconds
+  seconds-are = read-is (c .args .seconds) (c .fits .seconds)
+
+  leap-is : read (read (c .args .seconds) *ℤ pos secondTicks) ≡ c .args .seconds *ℤ pos secondTicks
+  leap-is = rw seconds-are (read-is _ (leap _ _ _ near))
 
 sub-result : tie.Need-sub-result
-sub-result c = rw (day-is c) (days (c .args .seconds) (c .args .day) (c .args .ticks) (c .pre))
+sub-result c = rw (day-is c) (days _ _ _ (near c))
 
 mul-result : tie.Need-mul-result
-mul-result c =
-    let a = c .args in
-    rw (day-is c, read-is _ (days (a .seconds) (a .day) (a .ticks) (c .pre))) (product (a .seconds) (a .day) (a .ticks) (c .pre))
+mul-result c = rw (days-are c) (product _ _ _ (near c))
 
 add-result : tie.Need-add-result
-add-result c =
-    let a = c .args in
-    rw (
-      day-is c,
-      ticks-is c,
-      read-is _ (days (a .seconds) (a .day) (a .ticks) (c .pre)),
-      read-is _ (product (a .seconds) (a .day) (a .ticks) (c .pre)),
-    ) (sum (a .seconds) (a .day) (a .ticks) (c .pre))
+add-result c = rw (product-is c, ticks-are c) (sum _ _ _ (near c))
 
 mul-result-2 : tie.Need-mul-result-2
-mul-result-2 c = let a = c .args in rw (seconds-is c) (leap (a .seconds) (a .day) (a .ticks) (c .pre))
+mul-result-2 c = rw (seconds-are c) (leap _ _ _ (near c))
 
 add-result-2 : tie.Need-add-result-2
-add-result-2 c =
-    let a = c .args in
-    rw (
-      day-is c,
-      ticks-is c,
-      seconds-is c,
-      read-is _ (days (a .seconds) (a .day) (a .ticks) (c .pre)),
-      read-is _ (product (a .seconds) (a .day) (a .ticks) (c .pre)),
-      read-is _ (sum (a .seconds) (a .day) (a .ticks) (c .pre)),
-      read-is _ (leap (a .seconds) (a .day) (a .ticks) (c .pre)),
-    ) (with-leap (a .seconds) (a .day) (a .ticks) (c .pre))
+add-result-2 c = rw (sum-is c, leap-is c) (with-leap _ _ _ (near c))
 
 sub-result-2 : tie.Need-sub-result-2
 unfolding taiBy
-sub-result-2 c =
-    let a = c .args in
-    rw (
-      day-is c,
-      ticks-is c,
-      seconds-is c,
-      read-is _ (days (a .seconds) (a .day) (a .ticks) (c .pre)),
-      read-is _ (product (a .seconds) (a .day) (a .ticks) (c .pre)),
-      read-is _ (sum (a .seconds) (a .day) (a .ticks) (c .pre)),
-      read-is _ (leap (a .seconds) (a .day) (a .ticks) (c .pre)),
-      read-is _ (with-leap (a .seconds) (a .day) (a .ticks) (c .pre)),
-    ) (tick (a .seconds) (a .day) (a .ticks) (c .pre))
+sub-result-2 c = rw (sum-is c, leap-is c, read-is _ (with-leap _ _ _ (near c))) (tick _ _ _ (near c))
 
 returns : tie.Need-returns
 unfolding taiBy
-returns c =
-    let a = c .args in
-    rw (
-      day-is c,
-      ticks-is c,
-      seconds-is c,
-      read-is _ (days (a .seconds) (a .day) (a .ticks) (c .pre)),
-      read-is _ (product (a .seconds) (a .day) (a .ticks) (c .pre)),
-      read-is _ (sum (a .seconds) (a .day) (a .ticks) (c .pre)),
-      read-is _ (leap (a .seconds) (a .day) (a .ticks) (c .pre)),
-      read-is _ (with-leap (a .seconds) (a .day) (a .ticks) (c .pre)),
-      read-is _ (tick (a .seconds) (a .day) (a .ticks) (c .pre)),
-    )
+returns c = rw (sum-is c, leap-is c, read-is _ (with-leap _ _ _ (near c)), read-is _ (tick _ _ _ (near c)))
 
 pub tai-by-spec : {M : Type 1} → statement M
 tai-by-spec =
