@@ -1,5 +1,5 @@
-/* A host in C: it judges a table, converts, runs a batch, reads and writes UTC and shows three
-   refusals. Its arguments are the table's file and that of the leap seconds. */
+/* A host in C: it judges a table, converts, splits a date two ways, runs a batch, reads and writes
+   UTC and shows three refusals. Its arguments are the table's file and that of the leap seconds. */
 #include "../include/colliedash.h"
 
 #include <inttypes.h>
@@ -56,6 +56,12 @@ int main(int argc, char **argv) {
 
     colliedash_date date = colliedash_write_date(answer.tick);
     printf("which is the date %.1f + %.15f\n", date.first, date.second);
+
+    /* One moment, half a tick past 43169793539062, split two ways: it is one tick. */
+    answer = colliedash_convert_date(TT, TT, 2443145.0 + 3.0 / 262144, 3.0 / 262144, NULL, 0);
+    printf("TT 2443145 and 3/262144, + 3/262144, is %" PRId64 "\n", answer.tick);
+    answer = colliedash_convert_date(TT, TT, 2443144.5, 0.5 + 3.0 / 131072, NULL, 0);
+    printf("TT 2443144.5 + 1/2 and 3/131072 is %" PRId64 "\n", answer.tick);
 
     /* Who buzzed first? Three crews, all tagged by GPS. */
     int64_t buzzes[3] = {1600000000000000007, 1600000000000000000, 1600000000250000000};

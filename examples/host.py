@@ -1,5 +1,5 @@
-"""A host in Python: it judges a table, converts, runs a batch, reads and writes UTC, and shows
-three refusals.
+"""A host in Python: it judges a table, converts, splits a date two ways, runs a batch, reads and
+writes UTC, and shows three refusals.
 
 Its arguments are the library as a shared object, the table's file and that of the leap seconds.
 """
@@ -96,6 +96,12 @@ print(f"GPS 2461112.5 + 0.75 is TDB {answer.tick}, {answer.steps} steps")
 
 date = desk.colliedash_write_date(answer.tick)
 print(f"which is the date {date.first:.1f} + {date.second:.15f}")
+
+# One moment, half a tick past 43169793539062, split two ways: it is one tick.
+answer = desk.colliedash_convert_date(TT, TT, 2443145 + 3 / 262144, 3 / 262144, None, 0)
+print(f"TT 2443145 and 3/262144, + 3/262144, is {answer.tick}")
+answer = desk.colliedash_convert_date(TT, TT, 2443144.5, 0.5 + 3 / 131072, None, 0)
+print(f"TT 2443144.5 + 1/2 and 3/131072 is {answer.tick}")
 
 # Who buzzed first? Three crews, all tagged by GPS.
 buzzes = (c_int64 * 3)(1600000000000000007, 1600000000000000000, 1600000000250000000)

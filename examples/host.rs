@@ -1,5 +1,6 @@
-//! A host in Rust: it judges a table, converts, runs a batch, reads and writes UTC and shows three
-//! refusals. Its arguments are the table's file and that of the leap seconds.
+//! A host in Rust: it judges a table, converts, splits a date two ways, runs a batch, reads and
+//! writes UTC and shows three refusals. Its arguments are the table's file and that of the leap
+//! seconds.
 
 use std::ptr::null;
 
@@ -124,6 +125,11 @@ fn batch(
     }
 }
 
+/// The tick of a date in TT, read by itself: no table is crossed.
+fn tt_tick((first, second): (f64, f64)) -> i64 {
+    unsafe { colliedash_convert_date(TT, TT, first, second, null(), 0) }.tick
+}
+
 /// A UTC reading in TT, on the way to which no table is crossed.
 fn tt_of(day: i64, ticks: i64, leaps: &[i64]) -> Answer {
     unsafe { colliedash_convert_utc(UTC, TT, day, ticks, leaps.as_ptr(), leaps.len(), null(), 0) }
@@ -180,6 +186,12 @@ fn main() {
 
     let date = colliedash_write_date(answer.tick);
     println!("which is the date {:.1} + {:.15}", date.first, date.second);
+
+    // One moment, half a tick past 43169793539062, split two ways: it is one tick.
+    let noon = (2443145.0 + 3.0 / 262144.0, 3.0 / 262144.0);
+    println!("TT 2443145 and 3/262144, + 3/262144, is {}", tt_tick(noon));
+    let midnight = (2443144.5, 0.5 + 3.0 / 131072.0);
+    println!("TT 2443144.5 + 1/2 and 3/131072 is {}", tt_tick(midnight));
 
     // Who buzzed first? Three crews, all tagged by GPS.
     let mut buzzes = [

@@ -112,8 +112,8 @@ colliedash_date colliedash_write_date(int64_t tick);
 colliedash_answer colliedash_convert_ticks(uint32_t from, uint32_t to, int64_t tick,
                                            const uint8_t *table, size_t table_len);
 
-/* The same of a Julian date in two parts, in days: each part is rounded to its nearest tick and the
-   two are added. */
+/* The same of a Julian date in two parts, in days. The exact sum of both is rounded once to the
+   nearest tick, a half to the greater: so a date is the same tick however it is split. */
 colliedash_answer colliedash_convert_date(uint32_t from, uint32_t to, double first, double second,
                                           const uint8_t *table, size_t table_len);
 

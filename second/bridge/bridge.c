@@ -3,9 +3,10 @@ The bridge: a program for the archive's kind of machine, which calls the
 archive's functions for `second compare`, wherever that one runs.
 
 It reads requests from standard input, one after the other, and writes one
-answer to each on standard output, until its input ends. Every number is 8
-bytes, little-endian: a narrower one is widened with zeros, a signed one is its
-two's complement, a double is its bits.
+answer to each on standard output, until its input ends. An answer is written
+before the next call is made, though more requests may have been sent by then.
+Every number is 8 bytes, little-endian: a narrower one is widened with zeros, a
+signed one is its two's complement, a double is its bits.
 
 A request:
     function            0: none, the bridge alone answers; 1 to 10: as listed below

@@ -45,7 +45,7 @@ impl Comparison {
 }
 
 /// Every comparison there is.
-pub const COMPARISONS: [Comparison; 16] = [
+pub const COMPARISONS: [Comparison; 17] = [
     Comparison {
         name: "colliedash_judge",
         run: tables::judge,
@@ -81,6 +81,10 @@ pub const COMPARISONS: [Comparison; 16] = [
     Comparison {
         name: "colliedash_convert_date, the reading alone",
         run: readings::read_date,
+    },
+    Comparison {
+        name: "colliedash_convert_date, around halves of a tick",
+        run: readings::read_splits,
     },
     Comparison {
         name: "colliedash_convert_j2000",

@@ -1,6 +1,6 @@
 //! Dates: readings of epochs, and a tick written as a date.
 
-use crate::exact::nearest;
+use crate::exact::Whole;
 use crate::refusal::{self, Refusal};
 use crate::scales::{Scale, is_valid_epoch, scale_of_code, scale_of_utc_code};
 use crate::utc::{Leaps, Utc};
@@ -26,23 +26,35 @@ pub const J2000: i128 = 2_451_545 * DAY;
 pub const GREATEST_DAYS: f64 = 5_000_000.0;
 pub const GREATEST_SECONDS: f64 = 1e10;
 
-/// "Each double stands for its exact value": ±m·2^e, times the ticks of its
-/// unit, to the nearest tick. The value passed refusals 2 and 3.
-pub fn ticks_of_double(value: f64, unit: i128) -> i128 {
+/// Every finite double is a whole number of times the smallest one, 2^-1074.
+const SMALLEST: usize = 1074;
+
+/// "Each double stands for its exact value": how many times the smallest double
+/// that is. The value passed refusal 2.
+fn smallest_doubles(value: f64) -> Whole {
     let bits = value.to_bits();
-    let field = ((bits >> 52) & 0x7ff) as i32;
+    let exponent = (bits >> 52) as usize & 0x7ff;
     let fraction = i128::from(bits & ((1 << 52) - 1));
-    let (m, e) = match field {
-        0 => (fraction, -1074),
-        _ => (fraction | 1 << 52, field - 1075),
+    let magnitude = match exponent {
+        0 => Whole::from(fraction),
+        _ => Whole::from(fraction | 1 << 52).times_two_to(exponent - 1),
     };
-    let product = if bits >> 63 == 1 { -m * unit } else { m * unit };
-    // A value up to 10^10 is below 2^34, so e is at most -19. The product is
-    // below 2^53·2^47; over 2^126 or more it is far below a half tick.
-    match -e {
-        126.. => 0,
-        shift => nearest(product, 1 << shift),
+    if bits >> 63 == 1 {
+        -&magnitude
+    } else {
+        magnitude
     }
+}
+
+/// The exact sum of the parts times the ticks of their unit, to the nearest
+/// tick, "halves to the greater". It "is rounded once", and nothing is left off
+/// before: "A part may be far smaller than a tick and still decide a half."
+/// The parts passed refusals 2 and 3, so these are fewer than 2^70 ticks.
+pub fn nearest_tick(parts: &[f64], unit: i128) -> i128 {
+    let exact = parts.iter().map(|part| smallest_doubles(*part));
+    let sum = exact.fold(Whole::from(0), |sum, part| &sum + &part);
+    let ticks = &sum * &Whole::from(unit);
+    ticks.nearest_over_two_to(SMALLEST).to_i128()
 }
 
 fn first_part_that(parts: &[f64], number: u32, wrong: impl Fn(f64) -> bool) -> Result<(), Refusal> {
@@ -76,19 +88,18 @@ impl Reading {
         }
     }
 
-    /// The epoch read, or refusal 2, 3, 5 or 4. "Each date part is rounded to
-    /// its nearest tick (halves to the greater) and the two are added; seconds
-    /// are rounded once." UTC is read as TAI, over its list.
+    /// The epoch read, or refusal 2, 3, 5 or 4. "From now on the exact sum of
+    /// both parts is rounded once" (request 2026-02); "seconds are rounded once"
+    /// (01). UTC is read as TAI, over its list.
     pub fn epoch(self, leaps: Option<&Leaps>) -> Result<i64, Refusal> {
         match self {
             Reading::TwoPart(first, second) => {
                 judge_parts(&[first, second], GREATEST_DAYS)?;
-                let sum = ticks_of_double(first, DAY) + ticks_of_double(second, DAY);
-                valid_epoch(sum - ORIGIN)
+                valid_epoch(nearest_tick(&[first, second], DAY) - ORIGIN)
             }
             Reading::SinceJ2000(seconds) => {
                 judge_parts(&[seconds], GREATEST_SECONDS)?;
-                valid_epoch(ticks_of_double(seconds, SECOND) + J2000 - ORIGIN)
+                valid_epoch(nearest_tick(&[seconds], SECOND) + J2000 - ORIGIN)
             }
             Reading::Ticks(tick) => valid_epoch(i128::from(tick)),
             Reading::Utc(utc) => {

@@ -14,6 +14,7 @@ const SEED: u64 = 1;
 const SIZE: Size = Size {
     tables: 160,
     conversions: 120,
+    splits: 2_000_000,
 };
 
 fn main() -> ExitCode {

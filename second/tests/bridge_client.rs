@@ -14,6 +14,7 @@ static STAGE: LazyLock<Stage> = LazyLock::new(|| {
     let size = Size {
         tables: 12,
         conversions: 40,
+        splits: 1_000,
     };
     Stage::new(11, size)
 });
@@ -79,6 +80,38 @@ fn a_bridge_that_breaks_down_is_told() {
     is_told("stray", "nonsense: an answer to another request", &EVERY);
     is_told("wide", "nonsense: fields that no answer has", &EVERY);
     is_told("seen", "nonsense: it has seen what nobody knows", &EVERY);
+}
+
+fn dates_of(ticks: std::ops::Range<i64>) -> Vec<Asked> {
+    ticks.map(|tick| Asked::WriteDate { tick }).collect()
+}
+
+#[test]
+fn many_calls_are_answered_in_their_order() {
+    let mut bridge = Bridge::start(&[SECOND, "bridge", "none"], LIMIT).unwrap();
+    let (mut own, lent) = (Own::default(), Lent::table(&[1, 2, 3]));
+    for begin in [0, -1_000, 1 << 60] {
+        let asked = dates_of(begin..begin + 300);
+        assert_eq!(bridge.calls(&asked, &lent), own.calls(&asked, &lent));
+    }
+}
+
+/// The 50th request, which is the 49th call, gets no answer.
+#[test]
+fn a_bridge_that_breaks_down_among_many_calls_tells_at_which() {
+    for fault in ["ends", "ends-in-answer", "silent", "stray", "wide", "seen"] {
+        let limit = Duration::from_millis(500);
+        let mut bridge = Bridge::start(&[SECOND, "bridge", fault], limit).unwrap();
+        let outcomes = bridge.calls(&dates_of(0..300), &Lent::default());
+        let answered = outcomes.iter().take_while(|outcome| outcome.is_ok());
+        assert_eq!((answered.count(), outcomes.len()), (48, 49), "{fault}");
+        // What it said since then is no answer to another call.
+        assert!(
+            bridge
+                .call(Asked::WriteDate { tick: 0 }, &Lent::default())
+                .is_err()
+        );
+    }
 }
 
 #[test]

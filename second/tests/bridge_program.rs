@@ -1,57 +1,19 @@
 //! The bridge itself, built and run with the kit, with an archive whose
 //! functions tell what they were called with.
 
+mod archive;
+
+use archive::{WHOLE, archive};
 use second::bridge::Bridge;
 use second::compare::{
     Answer, Asked, Called, Date, Desk, Lent, Outcome, Reply, TableAnswer, UtcAnswer, bytes_of_ticks,
 };
 use second::dates::Reading;
-use second::generate::{Random, any_double};
+use second::generate::{Random, any_double, splits};
 use second::utc::Utc;
-use std::fs;
-use std::path::{Path, PathBuf};
-use std::process::Command;
-use std::sync::LazyLock;
 use std::time::Duration;
 
 const LIMIT: Duration = Duration::from_secs(20);
-/// Makes an archive in a folder of the C files that are named after it.
-const MAKE_ARCHIVE: &str = r#"
-    . bridge/kit
-    for file in "${@:2}"; do
-        "$tools/bin/clang" --target=x86_64-unknown-linux-gnu -O1 -fPIC \
-            -c "tests/archive/$file.c" -o "$1/$file.o"
-        "$tools/bin/llvm-ar" rcs "$1/archive.a" "$1/$file.o"
-    done
-"#;
-
-#[track_caller]
-fn succeeds(command: &mut Command) {
-    let output = command.output().expect("bash, and the scripts of bridge/");
-    let told = String::from_utf8_lossy(&output.stderr);
-    assert!(output.status.success(), "{told}");
-}
-
-/// Makes an archive of these C files; gives its folder, and the command that
-/// builds a bridge with it there.
-fn archive(name: &str, files: &[&str]) -> (PathBuf, Command) {
-    let folder = Path::new(env!("CARGO_TARGET_TMPDIR")).join(name);
-    // What an earlier build left there must not be taken for this one's.
-    let _ = fs::remove_dir_all(&folder);
-    fs::create_dir_all(&folder).unwrap();
-    let mut make = Command::new("bash");
-    let words = ["-euc", MAKE_ARCHIVE, "make"];
-    succeeds(make.args(words).arg(&folder).args(files));
-    let mut build = Command::new("bridge/build");
-    build.arg(folder.join("archive.a")).arg(&folder);
-    (folder, build)
-}
-
-static WHOLE: LazyLock<PathBuf> = LazyLock::new(|| {
-    let (folder, mut build) = archive("whole", &["tables", "conversions", "utc"]);
-    succeeds(&mut build);
-    folder.join("bridge")
-});
 
 fn started(limit: Duration) -> Bridge {
     let program = WHOLE.to_str().unwrap();
@@ -223,6 +185,26 @@ fn conversions_arrive_as_they_were_asked() {
             convert(Reading::SinceJ2000(first), &null()),
             converted(bits[0], 0, -1)
         );
+    }
+}
+
+/// More of them than the bridge reads at a time.
+#[test]
+fn many_calls_are_answered_in_their_order() {
+    let mut bridge = started(LIMIT);
+    let (from, to) = (3, u32::MAX);
+    let mut random = Random::new(51);
+    for table in [&[5; 10][..], &[6; 1024]] {
+        let dates: Vec<(f64, f64)> = (0..800).flat_map(|_| splits(&mut random)).collect();
+        let readings = dates.iter().map(|date| Reading::TwoPart(date.0, date.1));
+        let asked = readings.map(|reading| Asked::Convert { from, to, reading });
+        let asked: Vec<Asked> = asked.collect();
+        let outcomes = bridge.calls(&asked, &Lent::table(table));
+        assert_eq!(outcomes.len(), dates.len());
+        for ((first, second), outcome) in dates.into_iter().zip(outcomes) {
+            let expected = converted(first.to_bits(), second.to_bits(), table[0].into());
+            assert_eq!(clean(outcome).0, expected);
+        }
     }
 }
 

@@ -19,7 +19,7 @@ const UTC: [u32; 14] = [0, 1, 4, 5, 6, 7, 8, 10, 11, 12, 13, 14, 15, 16];
 const UTC_ALONE: [u32; 5] = [0, 4, 5, 7, 8];
 
 /// Every number that each function can give to what it is asked.
-const NUMBERS: [(&str, &[u32]); 16] = [
+const NUMBERS: [(&str, &[u32]); 17] = [
     ("colliedash_judge", &[0, 10, 11, 12, 13, 14, 15, 16]),
     ("colliedash_read_table", &[0, 8, 10, 11, 12, 13, 14, 15, 16]),
     ("colliedash_write_table", &[0, 8, 13, 14, 15, 16]),
@@ -29,6 +29,10 @@ const NUMBERS: [(&str, &[u32]); 16] = [
     ("colliedash_convert_ticks, TDB to TT", &STEPS),
     ("colliedash_convert_date", &READ_AND_CONVERTED),
     ("colliedash_convert_date, the reading alone", &READINGS),
+    (
+        "colliedash_convert_date, around halves of a tick",
+        &[0, 3, 4],
+    ),
     ("colliedash_convert_j2000", &READ_AND_CONVERTED),
     ("colliedash_convert_j2000, the reading alone", &READINGS),
     (
@@ -176,7 +180,7 @@ fn planted_differences_in_conversions_are_reported() {
         let answer = answer(called);
         answer.steps = answer.steps.min(3);
     });
-    // The sum of the parts is rounded, not each part.
+    // The sum of the parts is rounded to a double first.
     let mut own = Own::default();
     is_reported("colliedash_convert_date", |asked, lent, called| {
         if let Asked::Convert { from, to, reading } = asked

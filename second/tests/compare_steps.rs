@@ -5,7 +5,7 @@ mod harness;
 
 use harness::{STAGE, answer, compared, is_reported};
 use second::compare::{Answer, Asked, Called, Lent, Own};
-use second::dates::{GREATEST_DAYS, GREATEST_SECONDS, J2000, ORIGIN, Reading};
+use second::dates::{DAY, GREATEST_DAYS, GREATEST_SECONDS, J2000, ORIGIN, Reading, nearest_tick};
 use second::ephemeris::{tdb_from_tt, tt_from_tdb};
 use second::refusal::Refusal;
 use second::scales::GREATEST_EPOCH;
@@ -50,6 +50,8 @@ fn refused(number: u32, place: u64) -> Answer {
 }
 
 const DATE: &str = "colliedash_convert_date, the reading alone";
+const HALVES: &str = "colliedash_convert_date, around halves of a tick";
+const BOTH_DATES: [&str; 2] = [DATE, HALVES];
 const SECONDS: &str = "colliedash_convert_j2000, the reading alone";
 const BOTH_READINGS: [&str; 2] = [DATE, SECONDS];
 const FORWARD: &str = "colliedash_convert_ticks, TT to TDB";
@@ -62,14 +64,6 @@ fn is_odd_multiple(value: f64, unit: f64) -> bool {
 
 #[test]
 fn a_wrong_tick_of_a_reading_is_reported() {
-    // The sum of the parts is rounded, not each part.
-    let sum = |(first, second): (f64, f64), answer: &mut Answer| {
-        if answer.number == 0 {
-            let epoch = Reading::TwoPart(first + second, 0.0).epoch(None);
-            answer.tick = epoch.unwrap_or_default();
-        }
-    };
-    is_reported_of_readings(DATE, sum);
     // Half a tick is an odd multiple of 2^-17 day or of 2^-10 second.
     for (name, power) in [(DATE, -17), (SECONDS, -10)] {
         for sign in [1.0, -1.0] {
@@ -86,6 +80,58 @@ fn a_wrong_tick_of_a_reading_is_reported() {
         }
     };
     is_reported_of_readings(SECONDS, in_doubles);
+}
+
+/// Instead of a date's tick, that of these parts is told.
+#[track_caller]
+fn is_reported_of_dates(names: &[&str], instead: impl Fn(f64, f64) -> i128) {
+    for name in names {
+        is_reported_of_readings(name, |(first, second), answer| {
+            if answer.number == 0 {
+                answer.tick = (instead(first, second) - ORIGIN) as i64;
+            }
+        });
+    }
+}
+
+#[test]
+fn a_date_that_is_not_rounded_once_is_reported() {
+    // Each part is rounded by itself, as before request 2026-02.
+    is_reported_of_dates(&BOTH_DATES, |first, second| {
+        nearest_tick(&[first], DAY) + nearest_tick(&[second], DAY)
+    });
+    // The sum is rounded to a double first.
+    is_reported_of_dates(&BOTH_DATES, |first, second| {
+        nearest_tick(&[first + second], DAY)
+    });
+    // A part that is far smaller than a tick is left off.
+    for finest in [f64::MIN_POSITIVE, 1e-300, 1e-40, 1e-25, 1e-20] {
+        let kept = |part: f64| if part.abs() < finest { 0.0 } else { part };
+        is_reported_of_dates(&[HALVES], |first, second| {
+            nearest_tick(&[kept(first), kept(second)], DAY)
+        });
+    }
+    // The smallest double alone is left off, in one place or the other.
+    let kept = |part: f64| if part.abs() == 5e-324 { 0.0 } else { part };
+    is_reported_of_dates(&[HALVES], |first, second| {
+        nearest_tick(&[kept(first), second], DAY)
+    });
+    is_reported_of_dates(&[HALVES], |first, second| {
+        nearest_tick(&[first, kept(second)], DAY)
+    });
+}
+
+/// The exact sum of a half goes to the greater, also where no part is a half.
+#[test]
+fn a_half_that_goes_to_the_lesser_is_reported() {
+    let is_fine = |part: f64| (part * 2f64.powi(17)).fract() != 0.0;
+    for fine in [true, false] {
+        // A tiny part less makes the half the lesser, and nothing else another.
+        is_reported_of_dates(&[HALVES], |first, second| {
+            let less = if is_fine(first) == fine { -5e-324 } else { 0.0 };
+            nearest_tick(&[first, second, less], DAY)
+        });
+    }
 }
 
 #[test]
@@ -135,7 +181,9 @@ fn a_reading_at_the_very_end_is_judged() {
                 *answer = refused(4, 0);
             }
         };
-        is_reported_of_readings(DATE, at_end);
+        for name in BOTH_DATES {
+            is_reported_of_readings(name, at_end);
+        }
     }
 }
 

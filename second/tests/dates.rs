@@ -1,6 +1,9 @@
 //! Dates: readings by exact value, written dates, refusals 2, 3 and 4.
 
-use second::dates::{DAY, J2000, ORIGIN, Reading, SECOND, ticks_of_double, write_date};
+mod exact_value;
+
+use exact_value::exact_value;
+use second::dates::{DAY, J2000, ORIGIN, Reading, SECOND, nearest_tick, write_date};
 use second::exact::{Fraction, Whole};
 use second::generate::{
     Random, date_pairs, edge_days, edge_seconds, edge_ticks, random_tick, seconds_past_j2000,
@@ -8,21 +11,7 @@ use second::generate::{
 use second::refusal::Refusal;
 use second::scales::{GREATEST_EPOCH, is_valid_epoch};
 
-/// The exact value of a finite double as a fraction of whole numbers, found by
-/// doubling and halving, which are exact, until it is a whole number.
-fn exact_value(value: f64) -> Fraction {
-    let (mut whole, mut halvings) = (value.abs(), 0);
-    while whole.fract() != 0.0 {
-        whole *= 2.0;
-        halvings += 1;
-    }
-    assert!(whole < 2f64.powi(100));
-    let numerator = Whole::from(whole as i128);
-    let numerator = if value < 0.0 { -&numerator } else { numerator };
-    Fraction::new(numerator, Whole::from(2).power(halvings))
-}
-
-fn nearest_tick(value: f64, unit: i128) -> Whole {
+fn exact_ticks(value: f64, unit: i128) -> Whole {
     (&exact_value(value) * &Fraction::whole(unit)).nearest()
 }
 
@@ -39,16 +28,16 @@ fn every_double_stands_for_its_exact_value() {
     days.retain(|days| days.is_finite() && days.abs() <= 5e6);
     assert!(days.len() > 2_000);
     for day in days {
-        let ticks = Whole::from(ticks_of_double(day, DAY));
-        assert_eq!(ticks, nearest_tick(day, DAY), "{day:e} days");
+        let ticks = Whole::from(nearest_tick(&[day], DAY));
+        assert_eq!(ticks, exact_ticks(day, DAY), "{day:e} days");
     }
     let mut seconds = edge_seconds(&mut random);
     seconds.extend((0..2_000).map(|_| f64::from_bits(random.bits())));
     seconds.retain(|seconds| seconds.is_finite() && seconds.abs() <= 1e10);
     assert!(seconds.len() > 200);
     for second in seconds {
-        let ticks = Whole::from(ticks_of_double(second, SECOND));
-        assert_eq!(ticks, nearest_tick(second, SECOND), "{second:e} s");
+        let ticks = Whole::from(nearest_tick(&[second], SECOND));
+        assert_eq!(ticks, exact_ticks(second, SECOND), "{second:e} s");
     }
 }
 
@@ -56,28 +45,13 @@ fn every_double_stands_for_its_exact_value() {
 fn exact_halves_go_to_the_greater() {
     // 2^-17 day is 659179687.5 ticks, and 2^-10 second is 976562.5 ticks.
     let day = 2f64.powi(-17);
-    assert_eq!(ticks_of_double(day, DAY), 659_179_688);
-    assert_eq!(ticks_of_double(-day, DAY), -659_179_687);
-    assert_eq!(ticks_of_double(day.next_down(), DAY), 659_179_687);
-    assert_eq!(ticks_of_double(-day.next_up(), DAY), -659_179_688);
+    assert_eq!(nearest_tick(&[day], DAY), 659_179_688);
+    assert_eq!(nearest_tick(&[-day], DAY), -659_179_687);
+    assert_eq!(nearest_tick(&[day.next_down()], DAY), 659_179_687);
+    assert_eq!(nearest_tick(&[-day.next_up()], DAY), -659_179_688);
     let second = 2f64.powi(-10);
-    assert_eq!(ticks_of_double(second, SECOND), 976_563);
-    assert_eq!(ticks_of_double(-second, SECOND), -976_562);
-}
-
-/// Each part is rounded by itself: two halves of a tick make one more.
-#[test]
-fn parts_are_rounded_before_they_are_added() {
-    let half = 2f64.powi(-17);
-    let whole = Reading::TwoPart(2_443_144.5, 0.0).epoch(None).unwrap();
-    let both = Reading::TwoPart(2_443_144.5 + half, half)
-        .epoch(None)
-        .unwrap();
-    assert_eq!(both - whole, 2 * 659_179_688);
-    let against = Reading::TwoPart(2_443_144.5 + half, -half)
-        .epoch(None)
-        .unwrap();
-    assert_eq!(against - whole, 1);
+    assert_eq!(nearest_tick(&[second], SECOND), 976_563);
+    assert_eq!(nearest_tick(&[-second], SECOND), -976_562);
 }
 
 #[test]

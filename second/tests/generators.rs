@@ -1,8 +1,14 @@
 //! The generators bring what they promise.
 
+mod exact_sum;
+
+use exact_sum::exact_sum;
 use second::blocks::{image, judge};
 use second::dates::{DAY, GREATEST_DAYS, Reading};
-use second::generate::{Random, accepted_tables, any_double, input, read_dates, read_seconds};
+use second::generate::{
+    Random, accepted_tables, any_double, input, read_dates, read_seconds, splits,
+};
+use second::refusal::Refusal;
 use second::scales::GREATEST_EPOCH;
 use second::table::Table;
 use std::collections::BTreeSet;
@@ -121,6 +127,115 @@ fn seconds_to_read_reach_every_limit() {
         Err(_) => false,
     };
     assert!(list.iter().filter(near_end).count() > 100);
+}
+
+type Date = (f64, f64);
+
+fn split_dates(seed: u64, how_many: usize) -> Vec<[Date; 2]> {
+    let mut random = Random::new(seed);
+    (0..how_many).map(|_| splits(&mut random)).collect()
+}
+
+fn is_valid((first, second): Date) -> bool {
+    Reading::TwoPart(first, second).epoch(None).is_ok()
+}
+
+fn is_half_sum(date: Date) -> bool {
+    let (sum, left_off) = exact_sum(date);
+    is_half(sum, 17) && left_off == 0.0
+}
+
+#[test]
+fn most_split_dates_are_valid_and_others_on_both_sides() {
+    let dates = split_dates(66, 10_000).concat();
+    let many = |wanted: &dyn Fn(Date) -> bool| dates.iter().filter(|d| wanted(**d)).count();
+    assert!(many(&is_valid) > 17_000);
+    assert!(many(&|date| date.0 + date.1 < 0.0) > 200);
+    assert!(many(&|date| date.0 + date.1 > 2_600_000.0) > 200);
+}
+
+/// Sums that are exact halves come of every kind of parts, in both orders.
+#[test]
+fn halves_of_a_tick_are_split_in_every_way() {
+    let mut dates = split_dates(67, 10_000).concat();
+    dates.retain(|date| is_valid(*date) && is_half_sum(*date));
+    let has_digits = |part: f64, power: i32| (part * 2f64.powi(power)).fract() != 0.0;
+    for greater_first in [true, false] {
+        let many = |wanted: &dyn Fn(f64, f64) -> bool| {
+            let ordered = dates.iter().filter(|(a, b)| (a > b) == greater_first);
+            ordered
+                .filter(|(a, b)| wanted(a.max(*b), a.min(*b)))
+                .count()
+        };
+        // Noon or midnight plus a bit.
+        assert!(many(&|greater, bit| !has_digits(greater, 1) && bit.abs() < 2.0) > 200);
+        // No part is a half or a whole number of ticks; the lesser is near or far.
+        assert!(many(&|greater, lesser| has_digits(greater, 17) && lesser.abs() < 1.0) > 200);
+        assert!(many(&|greater, lesser| has_digits(greater, 17) && lesser > 1e5) > 200);
+        assert!(many(&|greater, lesser| has_digits(greater, 17) && lesser < -1e5) > 100);
+        assert!(many(&|greater, _| has_digits(greater, 30)) > 200);
+        assert!(many(&|greater, _| greater == GREATEST_DAYS) > 100);
+        assert!(many(&|greater, lesser| is_half(greater, 17) && lesser == 0.0) > 100);
+    }
+}
+
+/// The other part of a half: every tiny double, in both places.
+#[test]
+fn halves_of_a_tick_have_every_tiny_part_beside_them() {
+    let dates = split_dates(68, 20_000).concat();
+    let half_first = dates.iter().filter(|(half, _)| is_half(*half, 17));
+    let half_second = dates.iter().filter(|(_, half)| is_half(*half, 17));
+    let after: Vec<f64> = half_first.map(|(_, tiny)| *tiny).collect();
+    let before: Vec<f64> = half_second.map(|(tiny, _)| *tiny).collect();
+    for mut parts in [after, before] {
+        parts.retain(|part| part.abs() < 2.0 / DAY as f64);
+        for sign in [1.0, -1.0] {
+            let many = |wanted: &dyn Fn(f64) -> bool| {
+                let signed = parts.iter().filter(|part| part.signum() == sign);
+                signed.filter(|part| wanted(part.abs())).count()
+            };
+            assert!(many(&|part| part == 0.0) > 200);
+            assert!(many(&|part| part == 5e-324) > 200);
+            assert!(many(&|part| part.is_subnormal()) > 400);
+            assert!(many(&|part| part.is_normal()) > 400);
+        }
+        let exponents: BTreeSet<u64> = parts
+            .iter()
+            .map(|part| part.abs().to_bits() >> 52)
+            .collect();
+        assert!(exponents.len() > 500);
+    }
+}
+
+/// Most twos have one exact sum; the others have a half of a tick between them,
+/// and some of these an end of the range.
+#[test]
+fn two_split_dates_belong_together() {
+    let twos = split_dates(69, 20_000);
+    let many = |wanted: &dyn Fn(Date, Date) -> bool| {
+        twos.iter()
+            .filter(|[one, other]| wanted(*one, *other))
+            .count()
+    };
+    let is_split_anew = |one: Date, other: Date| {
+        let same_parts = one == other || one == (other.1, other.0);
+        exact_sum(one) == exact_sum(other) && !same_parts
+    };
+    assert!(many(&is_split_anew) > 8_000);
+    let is_no_double = |date| exact_sum(date).1 != 0.0;
+    assert!(many(&|one, other| is_split_anew(one, other) && is_no_double(one)) > 1_000);
+    let read = |(first, second): Date| Reading::TwoPart(first, second).epoch(None);
+    for end in [-GREATEST_EPOCH, GREATEST_EPOCH] {
+        for beside in [Err(Refusal::new(4, 0)), Ok(end - end.signum())] {
+            // Doubles cannot tell these two sums apart.
+            let at_end = |one, other| {
+                read(one) == Ok(end)
+                    && read(other) == beside
+                    && exact_sum(one).0 == exact_sum(other).0
+            };
+            assert!(many(&|one, other| at_end(one, other) || at_end(other, one)) > 100);
+        }
+    }
 }
 
 /// The same seed gives the same inputs, and another seed others.

@@ -9,9 +9,8 @@ const ORIGIN: i128 = 211_087_684_832_184_000_000;
 /// JD 2443144.5, in ticks before the origin
 const MIDNIGHT: i64 = 32_184_000_000;
 
-/// Days to the nearest tick: the double's digits times a day, shifted by its exponent. Below
-/// 5,000,000 days the shift is to the right.
-fn ticks(days: f64) -> i128 {
+/// A double's digits with its sign, and how many of them are below one.
+fn apart(days: f64) -> (i64, i32) {
     let bits = days.to_bits();
     let field = (bits >> 52) as i32 & 0x7ff;
     let low = bits as i64 & ((1 << 52) - 1);
@@ -21,11 +20,20 @@ fn ticks(days: f64) -> i128 {
     } else {
         digits
     };
-    let right = 1075 - field.max(1);
-    if right > 120 {
+    (signed, 1075 - field.max(1))
+}
+
+/// The exact sum of both parts, to the nearest tick. The coarser part's places hold every half, so
+/// the finer one is cut there. Where both are below a minute, the sum is before every valid tick.
+fn ticks(first: f64, second: f64) -> i128 {
+    let (a, b) = (apart(first), apart(second));
+    let ((coarse, places), (fine, more)) = if a.1 <= b.1 { (a, b) } else { (b, a) };
+    if places > 64 {
         return 0;
     }
-    (i128::from(signed) * i128::from(DAY) + (1 << (right - 1))) >> right
+    let day = i128::from(DAY);
+    let cut = (i128::from(fine) * day) >> (more - places).min(127);
+    (((i128::from(coarse) * day + cut) >> (places - 1)) + 1) >> 1
 }
 
 pub fn read(first: f64, second: f64) -> Result<i64, Refusal> {
@@ -36,7 +44,7 @@ pub fn read(first: f64, second: f64) -> Result<i64, Refusal> {
     if let Some(part) = parts.iter().position(|part| part.abs() > 5_000_000.0) {
         return Err(Refusal::new(3, part as u64));
     }
-    match i64::try_from(ticks(first) + ticks(second) - ORIGIN) {
+    match i64::try_from(ticks(first, second) - ORIGIN) {
         Ok(tick) if valid(tick) => Ok(tick),
         _ => Err(Refusal::new(4, 0)),
     }

@@ -23,15 +23,20 @@ fn compare(ticks: &[i64]) {
         assert_eq!((ours.number, ours.first, ours.second), rust);
         compare_converted(ours.first, ours.second);
     }
+    // The last three are a half of a tick, and what makes one of two parts that are none.
     let odd = [
         0.0,
         -0.3,
         5e-324,
+        -5e-324,
         2443144.5,
         -5e6,
         5_000_000.1,
         f64::NAN,
         f64::INFINITY,
+        2443145.0 + 3.0 / 131072.0,
+        2443145.0 + 3.0 / 262144.0,
+        3.0 / 262144.0,
     ];
     for first in odd {
         for second in odd {

@@ -1,9 +1,9 @@
--- What the comparisons of doubles say: strictly between the infinities is finite, and beyond a
--- number k·2^j either way is `beyond`. Assumes nothing.
+-- What the comparisons of doubles say: strictly between the infinities is finite, below 0.0 the
+-- value is negative, and beyond a number k·2^j either way is `beyond`. Assumes nothing.
 use mathlib.Core.Path.{_≡_, refl, sym, ap, _∙_, subst}
 use mathlib.Core.Bool.{Bool, true, false, not, _&&_, _||_, false≢true}
-use Prim.Native.Nat.{ℕ, _+_, _*_, _^_, _<_}
-use native.Mathlib.Nat.{add-comm, le-of-lt, le-of-eq, mul-one, mul-pos}
+use Prim.Native.Nat.{ℕ, _+_, _*_, _^_, _<_, zero-le}
+use native.Mathlib.Nat.{add-comm, le-of-lt, le-of-eq, mul-one, mul-pos, zero-mul}
 use native.Mathlib.Omega.{arith}
 use lib.Arith.{le→nltb, lt-of-le-ne}
 use lib.Dec.{T, eqb, ltb, ltb→lt, lt→ltb, nltb→le, eqb→eq, eqb-refl}
@@ -11,7 +11,10 @@ use lib.IntN.{ℤ, pos}
 use lib.Ieee.{Float, nan, inf, fin, up, down, lt, eq, le}
 use lib.Ieee.Fits.{down-pos}
 use lib.Ieee.Scale.{finite}
-use Rattle.dates.specs.Doubles.{beyond}
+use lib.Signed.{_≤ℤ_, _<ℤ_}
+use Rattle.numbers.proofs.Differences.{lin}
+use Rattle.numbers.proofs.Order.{le-pos}
+use Rattle.dates.specs.Doubles.{beyond, numerator}
 use Rattle.dates.specs.Inner.{passing}
 
 pub below-inf : (x : Float) → lt x (inf false) ≡ true → lt (inf true) x ≡ finite x
@@ -26,6 +29,25 @@ unfolding lt
 not-below-inf nan h = refl
 not-below-inf (inf s) h = refl
 not-below-inf (fin s m e) h = sym h
+
+-- ---- 0.0: −0.0 is not below it
+pub below-zero : (x : Float) → T (finite x) → lt x (fin false 0 (pos 0)) ≡ true → numerator x <ℤ pos 0
+unfolding lt numerator
+below-zero nan f h = absurd f
+below-zero (inf s) f h = absurd f
+below-zero (fin false m e) f h =
+    let l = ltb→lt (m * up e * 1) (0 * 1 * down e) (subst T (sym h) tt) in
+    let no : ⊥ = omega (arith, zero-mul (down e)) in absurd no
+below-zero (fin true m e) f h =
+    let l = ltb→lt 0 (m * up e * 1 + 0 * 1 * down e) (subst T (sym h) tt) in simp lin (omega (arith, zero-mul (down e)))
+
+pub not-below-zero : (x : Float) → T (finite x) → lt x (fin false 0 (pos 0)) ≡ false → pos 0 ≤ℤ numerator x
+unfolding lt numerator
+not-below-zero nan f h = absurd f
+not-below-zero (inf s) f h = absurd f
+not-below-zero (fin false m e) f h = le-pos 0 (m * up e) zero-le
+not-below-zero (fin true m e) f h =
+    let l = nltb→le 0 (m * up e * 1 + 0 * 1 * down e) (subst (λ (b : Bool). T (not b)) (sym h) tt) in simp lin (omega (arith, zero-mul (down e)))
 
 -- ---- ≤ of doubles is < or =, and so not > of their sizes
 le-is : (a b : ℕ) (same : Bool) → (T same → a ≡ b) → (a ≡ b → T same) → (ltb a b || (same && true)) ≡ not (ltb b a)

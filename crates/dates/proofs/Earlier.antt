@@ -1,9 +1,9 @@
 -- Of two readings of seconds the earlier is never the later tick. Assumes nothing.
-use mathlib.Core.Path.{_≡_, ap, _∙_}
+use mathlib.Core.Path.{_≡_}
 use mathlib.Core.Logic.{_⊎_, inl, inr}
 use mathlib.Core.Bool.{Bool, true, false, _||_, not, false≢true}
-use Prim.Native.Nat.{ℕ, _+_, _*_, _≤_}
-use native.Mathlib.Nat.{mul-pos, le-of-lt, le-of-eq, mul-comm}
+use Prim.Native.Nat.{ℕ, _*_, _^_, _≤_}
+use native.Mathlib.Nat.{le-of-lt, le-of-eq, mul-comm}
 use native.Mathlib.Omega.{arith}
 use lib.Dec.{T, eqb, ltb→lt, eqb→eq}
 use lib.IntN.{ℤ, pos, _+ℤ_, _*ℤ_}
@@ -13,9 +13,9 @@ use lib.Ieee.Fits.{and-l, and-r}
 use lib.Ieee.Scale.{finite}
 use Rattle.numbers.specs.Rounding.{nearest}
 use Rattle.numbers.proofs.Differences.{rep₃, lin}
-use Rattle.numbers.proofs.Ring.{*-left-comm}
+use Rattle.numbers.proofs.Ring.{*-left-comm, one-*}
 use Rattle.numbers.proofs.Order.{*-mono, le-pos}
-use Rattle.numbers.proofs.Rounding.{nearest-order, nearest-reduced}
+use Rattle.numbers.proofs.Rounding.{nearest-keeps}
 use Rattle.scales.specs.Tick.{isValid}
 use Rattle.scales.specs.declared.answer.Read.{Read}
 use Rattle.scales.specs.declared.answer.Read.the-variants as R
@@ -23,6 +23,7 @@ use Rattle.numbers.specs.Signs.{signed}
 use Rattle.dates.specs.Doubles.{numerator, denominator, beyond}
 use Rattle.dates.specs.Ticks.{ticksRounded, secondTicks, j2000, tickOfSeconds}
 use Rattle.dates.specs.Readings.{inRange, refusedIf, mostSeconds, readOfSeconds}
+use Rattle.dates.specs.Inner.{Far, Readable}
 use Rattle.scales.specs.Answers.{Accepts, readNumber, readTick}
 use Rattle.dates.proofs.Values.{den-pos, signed-times}
 
@@ -60,27 +61,28 @@ doubles-in-order (fin s m e) (fin t n d) f g h =
     (ordered s t (m * up e * down d) (n * up d * down e)
     (either (below s (m * up e * down d) t (n * up d * down e)) (level s (m * up e * down d) t (n * up d * down e)) h))
 
+-- at or after 2^20 days
+pub far-yes : (x : Float) → Readable 5000000 x → le (fin false 1 (pos 20)) x ≡ true → Far x
+unfolding numerator denominator
+far-yes x r h =
+    let l = doubles-in-order (fin false 1 (pos 20)) x tt (r .finitely) h in
+    record { readable = r; far = rw (mul-comm (2 ^ 20) (denominator x)) (rw (one-* (numerator x)) at l) }
+
 -- ---- and the nearest ticks keep it
-nearest-keeps : (per : ℕ) (x y : Float) → NotLater x y → ticksRounded per x ≤ℤ ticksRounded per y
+seconds-keep : (x y : Float) → NotLater x y → ticksRounded secondTicks x ≤ℤ ticksRounded secondTicks y
 unfolding ticksRounded
-nearest-keeps per x y h =
-    let c = denominator x in
-    let d = denominator y in
-    let p = pos per *ℤ numerator x in
-    let q = pos per *ℤ numerator y in
-    let left : nearest (pos d *ℤ p) (d * c) ≡ nearest p c = nearest-reduced p c d (den-pos x) (den-pos y) in
-    let right : nearest (pos c *ℤ q) (d * c) ≡ nearest q d = ap (nearest (pos c *ℤ q)) (mul-comm d c) ∙ nearest-reduced q d c (den-pos y) (den-pos x) in
-    let l : (pos d *ℤ p) ≤ℤ (pos c *ℤ q) =
-    rw (*-left-comm (pos d) (pos per) (numerator x), *-left-comm (pos c) (pos per) (numerator y))
-    (*-mono per (pos d *ℤ numerator x) (pos c *ℤ numerator y) h) in
-    rw (← left, ← right) (nearest-order (pos d *ℤ p) (pos c *ℤ q) (d * c) (mul-pos (den-pos y) (den-pos x)) l)
+seconds-keep x y h =
+    nearest-keeps (pos secondTicks *ℤ numerator x) (pos secondTicks *ℤ numerator y) (denominator x) (denominator y) (den-pos x) (den-pos y)
+    (rw
+    (*-left-comm (pos (denominator y)) (pos secondTicks) (numerator x), *-left-comm (pos (denominator x)) (pos secondTicks) (numerator y))
+    (*-mono secondTicks (pos (denominator y) *ℤ numerator x) (pos (denominator x) *ℤ numerator y) h))
 
 moved : (x y k : ℤ) → x ≤ℤ y → (x +ℤ k) ≤ℤ (y +ℤ k)
 moved = rep₃ _ (λ a b c d e f. simp lin (omega arith))
 
 ticks-in-order : (x y : Float) → NotLater x y → tickOfSeconds x ≤ℤ tickOfSeconds y
 unfolding tickOfSeconds
-ticks-in-order x y h = moved (ticksRounded secondTicks x) (ticksRounded secondTicks y) j2000 (nearest-keeps secondTicks x y h)
+ticks-in-order x y h = moved (ticksRounded secondTicks x) (ticksRounded secondTicks y) j2000 (seconds-keep x y h)
 
 -- ---- an accepted reading of seconds is finite, and its tick is the rule's
 accepted : (x : Float) (tick : ℤ) → Accepts (readOfSeconds x) tick → (T (finite x)) × (tickOfSeconds x ≡ tick)

@@ -2,7 +2,7 @@
 use mathlib.Core.Path.{_≡_, refl, sym, ap, _∙_, subst}
 use mathlib.Core.Logic.{_⊎_, inl, inr}
 use Prim.Native.Nat.{ℕ, zero, suc, _+_, _-_, _*_, _/_, _%_, _^_, _≤_, _<_}
-use native.Mathlib.Nat.{mod-lt, le-add-left, le-of-eq, mul-le-mul-left, pow-suc}
+use native.Mathlib.Nat.{mod-lt, mod-eq-of-lt, le-add-left, le-of-eq, mul-le-mul-left, pow-suc}
 use native.Mathlib.Omega.{arith}
 use mathlib.Core.Bool.{Bool, true, false, not, cond}
 use lib.Dec.{T, leb, eqb}
@@ -56,6 +56,10 @@ lowOf b = bitAnd b (2 ^ 52 - 1)
 
 field-is : (b : ℕ) → b % 2 ^ 63 / 2 ^ 52 ≡ fieldOf b
 field-is b = field b 11 52 ∙ sym (and-mask (b / 2 ^ 52) 11)
+
+-- without the sign's bit the field is all that is above the digits
+pub plain-field : (b : ℕ) → b < 2 ^ 63 → fieldOf b ≡ b / 2 ^ 52
+plain-field b h = sym (field-is b) ∙ ap (λ (z : ℕ). z / 2 ^ 52) (mod-eq-of-lt h)
 
 module _ (x : Float) (F : T (fits binary64 x)) (fine : T (finite x)) where
   abbrev b : ℕ

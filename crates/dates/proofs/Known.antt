@@ -9,7 +9,7 @@ use lib.Ieee.Scale.{finite}
 use Rattle.numbers.specs.Rounding.{nearest, floorDiv}
 use Rattle.scales.specs.Tick.{isValid}
 use Rattle.dates.specs.Doubles.{numerator, denominator, beyond}
-use Rattle.dates.specs.Ticks.{ticksRounded, tickOfDate, tickOfSeconds}
+use Rattle.dates.specs.Ticks.{sumDenominator, sumNumerator, tickOfDate, tickOfSeconds, tickOfSum, ticksRounded}
 use Rattle.dates.specs.Readings.{inRange, readOfParts, readOfSeconds}
 use Rattle.dates.specs.Written.{sinceHalf, dayOf, firstPart, dateOf, writtenOf}
 use Rattle.scales.specs.Answers.{Accepts, Refuses, readNumber, readPlace, readTick}
@@ -21,6 +21,10 @@ d2443144-5 = fin false 4886289 (negsuc 0)
 
 abbrev d2443143-5 : Float
 d2443143-5 = fin false 4886287 (negsuc 0)
+
+-- 2443145 + 3·2^-17
+abbrev half : Float
+half = fin false 320227901443 (negsuc 16)
 
 abbrev d5000000 : Float
 d5000000 = fin false 78125 (pos 6)
@@ -36,7 +40,8 @@ pub record KnownDates : Type 0 where
   pub nanSecond : (first : Float) → finite first ≡ true → Refuses (readOfParts first nan) 2 1
 
 pub known-dates : KnownDates
-unfolding readOfParts readOfSeconds inRange isValid tickOfDate ticksRounded nearest floorDiv numerator denominator beyond readNumber readPlace readTick
+unfolding readOfParts readOfSeconds inRange isValid tickOfDate tickOfSum sumNumerator sumDenominator nearest floorDiv numerator denominator beyond
+    readNumber readPlace readTick
 known-dates = record { split = (refl, refl); nanFirst = λ second. (refl, refl); nanSecond = λ first h. rw h (refl, refl) }
 
 -- ---- the edges of the rules. The double after 5000000.0 is 2^-30 more, the one after 10^10 is
@@ -76,7 +81,7 @@ pub record Edges : Type 0 where
       × (writtenPlace (writtenOf (pos 6000000000000000001)) ≡ 0)
 
 pub edges : Edges
-unfolding readOfParts readOfSeconds inRange isValid tickOfDate tickOfSeconds ticksRounded nearest floorDiv numerator denominator beyond readNumber
+unfolding readOfParts readOfSeconds inRange isValid tickOfSeconds ticksRounded nearest floorDiv numerator denominator beyond readNumber
     readPlace readTick
     writtenOf dateOf firstPart dayOf sinceHalf ofInt div writtenFirst writtenNumber writtenPlace
 edges = record {
@@ -94,3 +99,32 @@ edges = record {
   midnightBefore = refl;
   outside = (refl, refl);
 }
+
+-- ---- 'The same date split two ways': noon, JD 2443145, and 3·2^-17 of a day, which are
+-- 1977539062.5 ticks. 01 rounded each part by itself, and the first split was a tick less
+pub record KnownSplits : Type 0 where
+  -- 2443145 + 3·2^-18 and 3·2^-18, and midnight, 2443144.5, and 1/2 + 3·2^-17
+  pub noon : Accepts (readOfParts (fin false 640455802883 (negsuc 17)) (fin false 3 (negsuc 17))) (pos 43169793539063)
+  pub midnight : Accepts (readOfParts d2443144-5 (fin false 65539 (negsuc 16))) (pos 43169793539063)
+  -- the half by itself goes to the greater, beside 0.0 and −0.0 and the smallest double
+  pub zero : (negative : Bool) → Accepts (readOfParts half (fin negative 0 (pos 0))) (pos 43169793539063)
+  pub more : Accepts (readOfParts half (fin false 1 (negsuc 1073))) (pos 43169793539063)
+  -- 'A part may be far smaller than a tick and still decide a half': the smallest double taken off,
+  -- in either order
+  pub less : Accepts (readOfParts half (fin true 1 (negsuc 1073))) (pos 43169793539062)
+  pub lessFirst : Accepts (readOfParts (fin true 1 (negsuc 1073)) half) (pos 43169793539062)
+
+pub known-splits : KnownSplits
+unfolding readOfParts inRange isValid tickOfDate tickOfSum sumNumerator sumDenominator nearest floorDiv numerator denominator beyond readNumber readTick
+known-splits = record {
+  noon = (refl, refl);
+  midnight = (refl, refl);
+  zero = λ negative. by negative;
+  more = (refl, refl);
+  less = (refl, refl);
+  lessFirst = (refl, refl);
+}
+  where
+    by : (negative : Bool) → Accepts (readOfParts half (fin negative 0 (pos 0))) (pos 43169793539063)
+    by true = (refl, refl)
+    by false = (refl, refl)

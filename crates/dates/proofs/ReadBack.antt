@@ -18,6 +18,7 @@ use lib.Ieee.Fits.{down-pos}
 use lib.Ieee.Scale.{finite, grid}
 use Rattle.numbers.proofs.Differences.{rep₂, lin}
 use Rattle.numbers.proofs.Order.{le-pos, lt-pos}
+use Rattle.numbers.proofs.Ring.{*-assoc, *-left-comm}
 use Rattle.numbers.proofs.Rounding.{Floored, floored}
 use Rattle.scales.specs.Tick.{isValid}
 use Rattle.scales.proofs.Range.{valid-size}
@@ -31,7 +32,8 @@ use Rattle.dates.specs.Answers.{writtenNumber, writtenFirst, writtenSeco
 use Rattle.dates.specs.Inner.{Since}
 use Rattle.dates.proofs.Days.{days-counted, days-few, first-half-is, ticks-of-day-is}
 use Rattle.dates.proofs.Division.{part-under, part-value, part-ticks, half-value}
-use Rattle.dates.proofs.Values.{nearest-sized, ticks-of, value-of}
+use Rattle.dates.proofs.Sums.{whole-ticks}
+use Rattle.dates.proofs.Values.{value-of}
 
 -- ---- what a value says
 finite-of : (x : Float) (s : Bool) (a c : ℕ) → HasValue x s a c → finite x ≡ true
@@ -96,16 +98,13 @@ module _ (tick : ℤ) (v : isValid tick ≡ true) where
   unfolding firstPart
   first-value = rw (sym n-is) (half-value n (omega (arith, n-small)))
 
-  first-ticks : ticksRounded dayTicks (firstPart tick) ≡ pos 43200000000000 *ℤ halves tick
+  first-ticks : pos dayTicks *ℤ numerator (firstPart tick)
+      ≡ pos (denominator (firstPart tick)) *ℤ (pos 43200000000000 *ℤ halves tick)
   first-ticks =
-      ticks-of (firstPart tick) n 2 dayTicks (lit< tt) first-value
-      ∙ nearest-sized (n * dayTicks) 2 (43200000000000 * n) (lit< tt) (go n)
-      ∙ ap (λ (z : ℤ). pos 43200000000000 *ℤ z) n-is
-    where
-      go : (n : ℕ)
-          → (2 * (2 * (43200000000000 * n)) ≤ 2 * (n * 86400000000000) + 2)
-          × (2 * (n * 86400000000000) + 2 < 2 * (2 * (43200000000000 * n)) + 2 * 2)
-      go n = omega arith
+      *-assoc (pos 43200000000000) (pos 2) (numerator (firstPart tick))
+      ∙ ap (λ (z : ℤ). pos 43200000000000 *ℤ z) (value-of (firstPart tick) false n 2 first-value)
+      ∙ *-left-comm (pos 43200000000000) (pos (denominator (firstPart tick))) (pos n)
+      ∙ ap (λ (z : ℤ). pos (denominator (firstPart tick)) *ℤ (pos 43200000000000 *ℤ z)) n-is
 
   r : ℕ
   r = since % dayTicks
@@ -127,8 +126,11 @@ module _ (tick : ℤ) (v : isValid tick ≡ true) where
   second-ticks = rw (sym r-is) (part-ticks r r-small)
 
   sum : tickOfDate (firstPart tick) (secondPart tick) ≡ tick
-  unfolding tickOfDate sinceDay sinceHalf
-  sum = rw (first-ticks, second-ticks) (day-sum tick (dayOf tick))
+  unfolding sinceDay sinceHalf
+  sum =
+      whole-ticks (firstPart tick) (secondPart tick) (pos 43200000000000 *ℤ halves tick) first-ticks
+      ∙ ap (λ (z : ℤ). pos 43200000000000 *ℤ halves tick +ℤ z -ℤ pos origin) second-ticks
+      ∙ day-sum tick (dayOf tick)
 
   first-finite : finite (firstPart tick) ≡ true
   first-finite = finite-of (firstPart tick) false n 2 first-value

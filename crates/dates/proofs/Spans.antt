@@ -1,22 +1,19 @@
--- What a span is worth: a rounded part's, a sum's, and whether that is in the range. Assumes
--- nothing.
-use mathlib.Core.Path.{_≡_, refl, sym, ap, _∙_}
+-- What a span is worth: a sum's, and whether that is in the range. Assumes nothing.
+use mathlib.Core.Path.{_≡_, refl}
 use mathlib.Core.Bool.{Bool, true, false, not}
 use Prim.Native.Nat.{ℕ, zero, suc, _+_, _*_, _≤_, _<_}
 use native.Mathlib.Nat.{le-trans, zero-mul, suc-mul, mul-le-mul-left}
 use native.Mathlib.Omega.{arith}
 use lib.IntN.{ℤ, pos, negsuc, negℤ, natAbs, _+ℤ_, _*ℤ_}
 use lib.Signed.{_≤ℤ_, _<ℤ_}
-use lib.Ieee.{Float}
 use Rattle.numbers.proofs.Differences.{rep, rep₂, rep₄, lin, sizes}
 use Rattle.numbers.proofs.Order.{size-+}
 use Rattle.scales.specs.Tick.{furthest, isValid}
 use Rattle.scales.proofs.Range.{valid-size}
 use Rattle.scales.specs.declared.answer.Read.the-variants as R
 use Rattle.dates.specs.declared.span.Span.{Span}
-use Rattle.dates.specs.Ticks.{dayTicks, j2000, ticksRounded, origin, secondTicks, tickOfDate, tickOfSeconds}
 use Rattle.dates.specs.Readings.{inRange, refusedWith, refusedIf}
-use Rattle.dates.specs.Inner.{Reach, Rounded, Spanned, SpanWithin, modest, worth}
+use Rattle.dates.specs.Inner.{Reach, Spanned, SpanWithin, fewTicks, modest, worth}
 
 -- ---- the range: with p·m ticks in 100,000 days, beyond m units of p ticks either way a span is
 -- outside, and up to there it fits 64 bits
@@ -30,7 +27,7 @@ module _ (p m : ℕ) (w : p * m ≡ 8640000000000000000) where
   near : (u : ℤ) → u ≤ℤ pos m → negℤ (pos m) ≤ℤ u → natAbs (u *ℤ pos p) ≤ 8640000000000000000
   near = rep _ (λ a b. simp lin (λ h k. omega (arith, mul-le-mul-left p h, mul-le-mul-left p k)))
 
-outside : (z : ℤ) → furthest < natAbs z → inRange z ≡ refusedWith 4 0
+pub outside : (z : ℤ) → furthest < natAbs z → inRange z ≡ refusedWith 4 0
 unfolding inRange
 outside z h = go (isValid z) (valid-size z)
   where
@@ -39,19 +36,19 @@ outside z h = go (isValid z) (valid-size z)
     go false f = refl
 
 module _ (per most : ℤ) (reach : Reach per most) where
-  pub too-late : (span : Span) → SpanWithin modest span → most <ℤ span .units
+  pub too-late : (span : Span) → SpanWithin modest fewTicks span → most <ℤ span .units
       → inRange (worth per span) ≡ refusedWith 4 0
   too-late span m h =
       rw (reach .perIs)
       (outside (worth (pos (natAbs per)) span)
-      (far-above (natAbs per) (natAbs most) (reach .days) (span .units) (span .ticks) (rw (reach .mostIs) at h) (m .ticks)))
+      (far-above (natAbs per) (natAbs most) (reach .days) (span .units) (span .rest) (rw (reach .mostIs) at h) (m .rest)))
 
-  pub too-early : (span : Span) → SpanWithin modest span → span .units <ℤ negℤ most
+  pub too-early : (span : Span) → SpanWithin modest fewTicks span → span .units <ℤ negℤ most
       → inRange (worth per span) ≡ refusedWith 4 0
   too-early span m h =
       rw (reach .perIs)
       (outside (worth (pos (natAbs per)) span)
-      (far-below (natAbs per) (natAbs most) (reach .days) (span .units) (span .ticks) (rw (reach .mostIs) at h) (m .ticks)))
+      (far-below (natAbs per) (natAbs most) (reach .days) (span .units) (span .rest) (rw (reach .mostIs) at h) (m .rest)))
 
   pub most-size : natAbs most ≤ 8640000000000000000
   most-size = go (natAbs per) (natAbs most) (reach .days)
@@ -64,43 +61,27 @@ module _ (per most : ℤ) (reach : Reach per most) where
   units-size u h k = rw (reach .perIs) (near (natAbs per) (natAbs most) (reach .days) u (rw (reach .mostIs) at h) (rw (reach .mostIs) at k))
 
 -- ---- sums
--- the size of a sum, by the sizes of the two: n units and ticks at most, and m
-pub sum-sized : (n m : ℕ) (a b sum : Span) → SpanWithin n a → SpanWithin m b
-    → Spanned sum (a .units +ℤ b .units) (a .ticks +ℤ b .ticks) → SpanWithin (n + m) sum
-sum-sized n m a b sum p q e = record {
+-- the size of a sum, by the sizes of the two
+pub sum-sized : {u v r q : ℕ} (a b sum : Span) → SpanWithin u r a → SpanWithin v q b
+    → Spanned sum (a .units +ℤ b .units) (a .rest +ℤ b .rest) → SpanWithin (u + v) (r + q) sum
+sum-sized a b sum p q e = record {
   units = rw (e .unitsAre) (size-+ (a .units) (b .units) (p .units) (q .units));
-  ticks = rw (e .ticksAre) (size-+ (a .ticks) (b .ticks) (p .ticks) (q .ticks));
+  rest = rw (e .restIs) (size-+ (a .rest) (b .rest) (p .rest) (q .rest));
 }
 
-pub looser : (n m : ℕ) (span : Span) → n ≤ m → SpanWithin n span → SpanWithin m span
-looser n m span h w = record { units = le-trans (w .units) h; ticks = le-trans (w .ticks) h }
+pub looser : {u v r q : ℕ} (span : Span) → u ≤ v → r ≤ q → SpanWithin u r span → SpanWithin v q span
+looser span h k w = record { units = le-trans (w .units) h; rest = le-trans (w .rest) k }
 
-worth-plus : (per : ℕ) (a b sum : Span) → Spanned sum (a .units +ℤ b .units) (a .ticks +ℤ b .ticks)
+pub worth-plus : (per : ℕ) (a b sum : Span) → Spanned sum (a .units +ℤ b .units) (a .rest +ℤ b .rest)
     → worth (pos per) sum ≡ worth (pos per) a +ℤ worth (pos per) b
-worth-plus per a b sum e = rw (e .unitsAre, e .ticksAre) (go (a .units) (a .ticks) (b .units) (b .ticks))
+worth-plus per a b sum e = rw (e .unitsAre, e .restIs) (go (a .units) (a .rest) (b .units) (b .rest))
   where
     go : (s t u v : ℤ) → pos per *ℤ (s +ℤ u) +ℤ (t +ℤ v) ≡ pos per *ℤ s +ℤ t +ℤ (pos per *ℤ u +ℤ v)
     go = rep₄ _ (λ a b c d e f g h. simp lin (omega arith))
 
 -- J2000 past the origin, and the origin taken off
 abbrev pub j2000Span : Span
-j2000Span = record { units = pos 725803167; ticks = pos 816000000 }
+j2000Span = record { units = pos 725803167; rest = pos 816000000 }
 
 abbrev pub originSpan : Span
-originSpan = record { units = negsuc 2443143; ticks = negsuc 43232183999999 }
-
--- ---- the two kinds of doubles, from the leaves' spans to their ticks
-pub seconds-worth : (x : Float) (a sum : Span) → Rounded secondTicks x a
-    → Spanned sum (a .units +ℤ j2000Span .units) (a .ticks +ℤ j2000Span .ticks)
-    → worth (pos secondTicks) sum ≡ tickOfSeconds x
-unfolding tickOfSeconds
-seconds-worth x a sum r e = worth-plus secondTicks a j2000Span sum e ∙ ap (λ (z : ℤ). z +ℤ j2000) (sym (r .is))
-
-pub date-worth : (x y : Float) (a b both sum : Span) → Rounded dayTicks x a → Rounded dayTicks y b
-    → Spanned both (a .units +ℤ b .units) (a .ticks +ℤ b .ticks)
-    → Spanned sum (both .units +ℤ originSpan .units) (both .ticks +ℤ originSpan .ticks)
-    → worth (pos dayTicks) sum ≡ tickOfDate x y
-unfolding tickOfDate
-date-worth x y a b both sum p q e f =
-    let two : worth (pos dayTicks) both ≡ ticksRounded dayTicks x +ℤ ticksRounded dayTicks y = worth-plus dayTicks a b both e ∙ rw (p .is, q .is) in
-    worth-plus dayTicks both originSpan sum f ∙ ap (λ (z : ℤ). z +ℤ negℤ (pos origin)) two
+originSpan = record { units = negsuc 2443143; rest = negsuc 43232183999999 }

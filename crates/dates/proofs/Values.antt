@@ -1,31 +1,33 @@
--- From a double's value to its ticks. Assumes nothing.
+-- From a double's value to its ticks, and to the pieces and shares of the code. Assumes nothing.
 use borrow.Author.Tests.{not-true}
 use mathlib.Core.Path.{_≡_, refl, sym, ap, _∙_, subst}
 use mathlib.Core.Logic.{inl, inr}
 use mathlib.Core.Bool.{Bool, true, false, not}
 use Prim.Native.Nat.{ℕ, _+_, _-_, _*_, _^_, _≤_, _<_}
-use native.Mathlib.Nat.{le-of-lt, le-trans, le-of-eq, lt-of-le-of-lt, lt-irrefl, lt-of-not-le}
+use native.Mathlib.Nat.{le-of-lt, le-trans, le-of-eq, lt-of-le-of-lt, lt-of-lt-of-le, lt-irrefl, lt-of-not-le, le-add-right, div-mul-le-self, mul-pos}
+use native.Mathlib.Nat.{mul-lt-mul-of-pos-left}
+use lib.Signed.{_≤ℤ_}
 use native.Mathlib.Nat.{one-mul, mul-comm, mul-assoc, mul-left-comm, mul-le-mul, mul-le-mul-left, mul-le-mul-right, le-of-mul-le-mul-left}
 use native.Mathlib.Omega.{arith}
 use lib.Arith.{le→nltb}
 use lib.Dec.{T, nltb→le, lit≤, lit<}
 use lib.Pow.{pow-add, pow-pos, pow-mono}
-use lib.IntN.{ℤ, pos, natAbs, _+ℤ_, _-ℤ_, _*ℤ_, +ℤ-comm}
+use lib.IntN.{ℤ, pos, negℤ, natAbs, _+ℤ_, _*ℤ_}
 use lib.Ieee.{Float, nan, inf, fin, up, down}
 use lib.Ieee.Fits.{down-pos}
 use lib.Ieee.Exact.{HasValue}
 use lib.Ieee.Scale.{finite}
 use Rattle.numbers.specs.Rounding.{floorDiv, nearest}
-use Rattle.numbers.proofs.Differences.{rep, rep₂, lin}
-use Rattle.numbers.proofs.Ring.{*-left-comm, one-*}
+use Rattle.numbers.proofs.Differences.{rep, lin, sizes}
+use Rattle.numbers.proofs.Ring.{*-assoc, *-left-comm, one-*}
 use Rattle.numbers.proofs.Order.{abs-neg, abs-*, size-*}
 use Rattle.numbers.proofs.Flags.{both}
-use Rattle.numbers.proofs.Rounding.{floor-rest, floor-small, nearest-is, nearest-none, nearest-plus, nearest-reduced, nearest-same, nearest-small}
+use Rattle.numbers.proofs.Rounding.{*-cancel, floor-reduced, floor-rest, floor-same, floor-small, floor-split, floor-tiny, nearest-is, nearest-same}
 use Rattle.dates.specs.declared.span.Span.{Span}
 use Rattle.numbers.specs.Signs.{signed}
 use Rattle.dates.specs.Doubles.{numerator, denominator, beyond}
 use Rattle.dates.specs.Ticks.{ticksRounded}
-use Rattle.dates.specs.Inner.{Apart, Factored, Readable, Rounded, passing}
+use Rattle.dates.specs.Inner.{Apart, Counted, Factored, Far, Pieces, Readable, fewUnits, leftBy, passing, sharesOf}
 
 -- ---- signs
 pub signed-times : (s : Bool) (k n : ℕ) → pos k *ℤ signed s n ≡ signed s (k * n)
@@ -104,172 +106,232 @@ module _ (x : Float) (digits : ℤ) (e : ℕ) (t : Apart x digits e) where
       turn : (c n d : ℕ) → c * (n * d) ≡ d * (c * n)
       turn c n d = simp (mul-comm, mul-left-comm)
 
-  pub exponent-reach : Readable 10000000000 x → e ≤ 1056
-  exponent-reach p = elim (t .value) [
-    | inl z ↦ le-trans (le-of-eq z) (lit≤ tt)
+  -- how large the exponent is at most: so few units
+  pub exponent-reach : (twos : ℕ) → twos ≤ 16 → Readable (fewUnits twos) x → e + twos ≤ 1065
+  exponent-reach twos w p = elim (t .value) [
+    | inl z ↦ low e z w
     | inr v ↦
-        let least : 2 ^ (e + 52) ≤ 2 ^ e * m = le-trans (le-of-eq (pow-add 2 e 52)) (mul-le-mul-left (2 ^ e) (t .least)) in
-        let most : 2 ^ e * m < 2 ^ 1109 = lt-of-le-of-lt (in-units 10000000000 p v) (lit< tt) in
-        go e (lt-of-not-le (λ (g : 1109 ≤ e + 52). lt-irrefl (2 ^ 1109) (lt-of-le-of-lt (le-trans (pow-mono g) least) most)))
+        let most = fewUnits twos in
+        let least : 2 ^ (e + 52 + twos) ≤ 2 ^ e * m * 2 ^ twos =
+        le-trans (le-of-eq (pow-add 2 (e + 52) twos ∙ ap (λ (z : ℕ). z * 2 ^ twos) (pow-add 2 e 52)))
+        (mul-le-mul-right (2 ^ twos) (mul-le-mul-left (2 ^ e) (t .least))) in
+        let over : 2 ^ e * m * 2 ^ twos ≤ 2 ^ 1075 * (10000000000 * 2 ^ 9) =
+        le-trans (mul-le-mul-right (2 ^ twos) (in-units most p v))
+        (le-trans (le-of-eq (mul-assoc (2 ^ 1075) most (2 ^ twos))) (mul-le-mul-left (2 ^ 1075) (div-mul-le-self (10000000000 * 2 ^ 9) (2 ^ twos)))) in
+        let under : 2 ^ (e + 52 + twos) < 2 ^ 1118 = lt-of-le-of-lt (le-trans least over) (lit< tt) in
+        go e twos (lt-of-not-le (λ (g : 1118 ≤ e + 52 + twos). lt-irrefl (2 ^ 1118) (lt-of-le-of-lt (pow-mono g) under)))
   ]
     where
-      go : (e : ℕ) → e + 52 < 1109 → e ≤ 1056
-      go e h = omega arith
+      low : (e : ℕ) → e ≡ 0 → twos ≤ 16 → e + twos ≤ 1065
+      low e z w = omega arith
 
-  module _ (h : e ≤ 1056) where
+      go : (e k : ℕ) → e + 52 + k < 1118 → e + k ≤ 1065
+      go e k h = omega arith
+
+  -- ---- from 2^20 days on: the leading digit is not missing, and few digits are below a day
+  module _ (f : Far x) where
+    large : 2 ^ 20 * D ≤ N
+    large = go (numerator x) (2 ^ 20 * D) (f .far)
+      where
+        go : (z : ℤ) (n : ℕ) → pos n ≤ℤ z → n ≤ natAbs z
+        go = rep _ (λ a b n. simp sizes (omega arith))
+
+    over : 2 ^ 1095 * D ≤ D * (2 ^ e * m)
+    over =
+        le-trans (le-of-eq (ap (λ (z : ℕ). z * D) (pow-add 2 1075 20) ∙ mul-assoc (2 ^ 1075) (2 ^ 20) D))
+        (le-trans (mul-le-mul-left (2 ^ 1075) large) (t .under))
+
+    reached : 2 ^ 1095 < 2 ^ (e + 53)
+    reached =
+        lt-of-le-of-lt (le-of-mul-le-mul-left (le-trans (le-of-eq (mul-comm D (2 ^ 1095))) over) (den-pos x))
+        (lt-of-lt-of-le (mul-lt-mul-of-pos-left (t .small) (pow-pos e)) (le-of-eq (sym (pow-add 2 e 53))))
+
+    pub far-exponent : 1043 ≤ e
+    far-exponent = go e (lt-of-not-le (λ (g : e + 53 ≤ 1095). lt-irrefl (2 ^ 1095) (lt-of-lt-of-le reached (pow-mono g))))
+      where
+        go : (e : ℕ) → 1095 < e + 53 → 1043 ≤ e
+        go e h = omega arith
+
+    far-value : Value
+    far-value = elim (t .value) [
+      | inl z ↦ absurd (go e z far-exponent)
+      | inr w ↦ w
+    ]
+      where
+        go : (e : ℕ) → e ≡ 0 → 1043 ≤ e → ⊥
+        go e z g = omega arith
+
+    pub far-positive : (k : ℕ) → digits ≡ negℤ (pos k) → ⊥
+    far-positive k i = go (2 ^ 1075) D (2 ^ e) k (pow-pos 1075) (den-pos x) (numerator x) (f .far) (far-value ∙ rw i)
+      where
+        go : (c d p k : ℕ) → 0 < c → 0 < d → (n : ℤ) → pos (1048576 * d) ≤ℤ n
+            → pos c *ℤ n ≡ pos d *ℤ (pos p *ℤ negℤ (pos k)) → ⊥
+        go c d p k C E = rep _ (λ a b. simp lin (λ h i. omega (arith, mul-le-mul-left c h, mul-pos C E)))
+
+    pub far-exact : pos D *ℤ (pos (2 ^ (e - 1043)) *ℤ digits) ≡ pos (2 ^ 32) *ℤ numerator x
+    far-exact =
+        *-cancel (2 ^ 1043) _ _ (pow-pos 1043)
+        (up-again (2 ^ 1043) (2 ^ (e - 1043)) (2 ^ e) powers digits
+        ∙ sym far-value
+        ∙ ap (λ (z : ℕ). pos z *ℤ numerator x) (pow-add 2 1043 32)
+        ∙ *-assoc (pos (2 ^ 1043)) (pos (2 ^ 32)) (numerator x))
+      where
+        powers : 2 ^ 1043 * 2 ^ (e - 1043) ≡ 2 ^ e
+        powers = sym (pow-add 2 1043 (e - 1043)) ∙ ap (λ (z : ℕ). 2 ^ z) (go e far-exponent)
+          where
+            go : (e : ℕ) → 1043 ≤ e → 1043 + (e - 1043) ≡ e
+            go e h = omega arith
+
+        up-again : (c q p : ℕ) → c * q ≡ p → (z : ℤ) → pos c *ℤ (pos D *ℤ (pos q *ℤ z)) ≡ pos D *ℤ (pos p *ℤ z)
+        up-again c q p i = rep _ (λ a b. simp lin (omega (arith, ap (λ (n : ℕ). D * n * a) i, ap (λ (n : ℕ). D * n * b) i)))
+
+  -- the value in the digits' units, of which one has 2^(1075 − e)
+  module _ (h : e ≤ 1075) where
     abbrev P : ℕ
     P = 2 ^ (1075 - e)
 
     whole : 2 ^ e * P ≡ 2 ^ 1075
     whole = sym (pow-add 2 e (1075 - e)) ∙ ap (λ (z : ℕ). 2 ^ z) (go e h)
       where
-        go : (e : ℕ) → e ≤ 1056 → e + (1075 - e) ≡ 1075
+        go : (e : ℕ) → e ≤ 1075 → e + (1075 - e) ≡ 1075
         go e h = omega arith
 
-    -- less than half a tick is none
-    pub no-tick : (odd twos : ℕ) (span : Span) → Factored odd twos → 103 < 1075 - e → span .units ≡ pos 0
-        → span .ticks ≡ pos 0
-        → Rounded (odd * 2 ^ twos) x span
-    unfolding ticksRounded
-    no-tick odd twos span f g u r = record {
-      is = nearest-none (pos n *ℤ numerator x) D (subst (λ (z : ℕ). 2 * z < D) (sym (abs-* (pos n) (numerator x))) few) ∙ rw (u, r) (none n);
-      small = record { units = rw u (lit≤ tt); ticks = rw r (lit≤ tt) };
-    }
-      where
-        n : ℕ
-        n = odd * 2 ^ twos
+    -- ---- past 116 places: less than a share
+    scaled : P * N ≤ D * m
+    scaled =
+        le-of-mul-le-mul-left
+        (le-trans (le-of-eq (sym (mul-assoc (2 ^ e) P N) ∙ ap (λ (z : ℕ). z * N) whole)) (le-trans (t .under) (le-of-eq (mul-left-comm D (2 ^ e) m))))
+        (pow-pos e)
 
-        none : (n : ℕ) → pos 0 ≡ pos n *ℤ pos 0 +ℤ pos 0
-        none n = simp lin (omega arith)
+    module _ (g : 116 < 1075 - e) where
+      few : (k : ℕ) → k ≤ 2 ^ 63 → k * N < D
+      few k l =
+          go (k * N) N D (mul-le-mul-right N l)
+          (le-trans (mul-le-mul-right N (pow-mono g)) (le-trans scaled (mul-le-mul-left D (le-of-lt (t .small)))))
+          (den-pos x)
+        where
+          go : (w y d : ℕ) → w ≤ 9223372036854775808 * y
+              → 166153499473114484112975882535043072 * y ≤ d * 9007199254740992 → 0 < d → w < d
+          go w y d p q r = omega arith
 
-        scaled : P * N ≤ D * m
-        scaled =
-            le-of-mul-le-mul-left
-            (le-trans (le-of-eq (sym (mul-assoc (2 ^ e) P N) ∙ ap (λ (z : ℕ). z * N) whole)) (le-trans (t .under) (le-of-eq (mul-left-comm D (2 ^ e) m))))
-            (pow-pos e)
+      pub below-one : N < D
+      below-one = subst (λ (z : ℕ). z < D) (one-mul N) (few 1 (lit≤ tt))
 
-        few : 2 * (n * N) < D
-        few =
-            go (n * N) N D
-            (mul-le-mul-right N (mul-le-mul (le-of-lt (f .small)) (pow-mono (f .low))))
-            (le-trans (mul-le-mul-right N (pow-mono g)) (le-trans scaled (mul-le-mul-left D (le-of-lt (t .small)))))
-            (den-pos x)
-          where
-            go : (w y d : ℕ) → w ≤ 2147483648 * 65536 * y → 20282409603651670423947251286016 * y ≤ d * 9007199254740992
-                → 0 < d → 2 * w < d
-            go w y d p q r = omega arith
+      pub tiny-part : (odd twos : ℕ) (span : Span) → Factored odd twos → span .units ≡ pos 0
+          → span .rest ≡ floorDiv (numerator x) D
+          → Counted odd twos x span
+      unfolding sharesOf
+      tiny-part odd twos span f u r = record {
+        is = rw u (none odd (span .rest) ∙ r ∙ sym (floor-tiny (numerator x) D k (mul-pos (lit< tt) (mul-pos (f .some) (pow-pos twos))) (few k k-small)));
+        small = record { units = rw u (lit≤ tt); rest = rw r (le-trans (floor-small (numerator x) D 1 (den-pos x) (omega (arith, below-one))) (lit≤ tt)) };
+      }
+        where
+          k : ℕ
+          k = 65536 * (odd * 2 ^ twos)
 
-    -- up to there the leading digit is not missing, and the ticks are those of the digits
-    module _ (g : 1075 - e ≤ 103) where
+          k-small : k ≤ 2 ^ 63
+          k-small = le-trans (mul-le-mul-left 65536 (mul-le-mul (f .small) (pow-mono (f .low)))) (lit≤ tt)
+
+          none : (n : ℕ) (z : ℤ) → pos n *ℤ pos 0 +ℤ z ≡ z
+          none n = rep _ (λ a b. simp lin (omega arith))
+
+    -- ---- up to there the leading digit is not missing
+    module _ (g : 1075 - e ≤ 116) where
       v : Value
       v = elim (t .value) [
         | inl z ↦ absurd (go e z g)
         | inr w ↦ w
       ]
         where
-          go : (e : ℕ) → e ≡ 0 → 1075 - e ≤ 103 → ⊥
+          go : (e : ℕ) → e ≡ 0 → 1075 - e ≤ 116 → ⊥
           go e z g = omega arith
 
-      all : (n : ℕ) → ticksRounded n x ≡ nearest (pos n *ℤ digits) P
+      all : (n : ℕ) → floorDiv (pos n *ℤ numerator x) D ≡ floorDiv (pos n *ℤ digits) P
       all n =
-          ticks-at x (pos (2 ^ e) *ℤ digits) (2 ^ 1075) n (pow-pos 1075) v
-          ∙ ap (λ (z : ℤ). nearest z (2 ^ 1075)) (*-left-comm (pos n) (pos (2 ^ e)) digits)
-          ∙ ap (nearest (pos (2 ^ e) *ℤ (pos n *ℤ digits))) (sym whole)
-          ∙ nearest-reduced (pos n *ℤ digits) P (2 ^ e) (pow-pos (1075 - e)) (pow-pos e)
+          floor-same (pos n *ℤ numerator x) (pos n *ℤ (pos (2 ^ e) *ℤ digits)) D (2 ^ 1075) (den-pos x) (pow-pos 1075)
+          (*-left-comm (pos (2 ^ 1075)) (pos n) (numerator x) ∙ ap (λ (w : ℤ). pos n *ℤ w) v ∙ *-left-comm (pos n) (pos D) (pos (2 ^ e) *ℤ digits))
+          ∙ ap (λ (z : ℤ). floorDiv z (2 ^ 1075)) (*-left-comm (pos n) (pos (2 ^ e)) digits)
+          ∙ ap (floorDiv (pos (2 ^ e) *ℤ (pos n *ℤ digits))) (sym whole)
+          ∙ floor-reduced (pos n *ℤ digits) P (2 ^ e) (pow-pos (1075 - e)) (pow-pos e)
 
-      -- a part f of the digits, as c·f: c·f·odd over the last divisor
-      scaled-part : (c d odd twos : ℕ) (f : ℤ) → 0 < d → 2 ^ twos * d ≡ c * P
-          → nearest (pos (odd * 2 ^ twos) *ℤ f) P ≡ nearest (pos odd *ℤ (pos c *ℤ f)) d
-      scaled-part c d odd twos f k i =
-          nearest-same (pos (odd * 2 ^ twos) *ℤ f) (pos odd *ℤ (pos c *ℤ f)) P d (pow-pos (1075 - e)) k (turn odd (2 ^ twos) c d P i f)
+      -- in shares: c·digits·odd over d, where 2^(16 + twos)·d is c·P
+      in-shares : (c d odd twos : ℕ) → 0 < d → 65536 * 2 ^ twos * d ≡ c * P
+          → sharesOf (odd * 2 ^ twos) x ≡ floorDiv (pos odd *ℤ (pos c *ℤ digits)) d
+      unfolding sharesOf
+      in-shares c d odd twos k i =
+          all (65536 * (odd * 2 ^ twos))
+          ∙ floor-same (pos (65536 * (odd * 2 ^ twos)) *ℤ digits) (pos odd *ℤ (pos c *ℤ digits)) P d (pow-pos (1075 - e)) k
+          (turn odd (2 ^ twos) c d P i digits)
         where
-          turn : (o a c d p : ℕ) → a * d ≡ c * p → (f : ℤ)
-              → pos d *ℤ (pos (o * a) *ℤ f) ≡ pos p *ℤ (pos o *ℤ (pos c *ℤ f))
+          turn : (o a c d p : ℕ) → 65536 * a * d ≡ c * p → (f : ℤ)
+              → pos d *ℤ (pos (65536 * (o * a)) *ℤ f) ≡ pos p *ℤ (pos o *ℤ (pos c *ℤ f))
           turn o a c d p i = rep _ (λ x y. simp lin (omega (arith, ap (λ (z : ℕ). o * x * z) i, ap (λ (z : ℕ). o * y * z) i)))
 
-      -- ticks of at most a unit are few
-      part-few : (odd twos : ℕ) (f : ℤ) → Factored odd twos → natAbs f ≤ P
-          → natAbs (nearest (pos (odd * 2 ^ twos) *ℤ f) P) ≤ 1000000000000000
-      part-few odd twos f i l =
-          le-trans
-          (nearest-small (pos n *ℤ f) P n (pow-pos (1075 - e)) (le-trans (size-* (pos n) f (le-of-eq refl) l) (le-of-eq (mul-comm n P))))
-          (le-trans (mul-le-mul (le-of-lt (i .small)) (pow-mono (i .low))) (lit≤ tt))
-        where
-          n : ℕ
-          n = odd * 2 ^ twos
-
-      -- ---- no whole unit: from 64 places on
-      pub small-part : (odd twos : ℕ) (span : Span) → Factored odd twos → 63 < 1075 - e → span .units ≡ pos 0
-          → span .ticks ≡ nearest (pos odd *ℤ digits) (2 ^ (32 + (1075 - e - 32 - twos)))
-          → Rounded (odd * 2 ^ twos) x span
+      -- less than a piece
+      pub small-part : (odd twos : ℕ) (span : Span) → Factored odd twos → 47 + twos < 1075 - e → span .units ≡ pos 0
+          → span .rest ≡ floorDiv (pos odd *ℤ digits) (2 ^ (31 + (1075 - e - 47 - twos)))
+          → Counted odd twos x span
       small-part odd twos span f g u r =
-          let by = 32 + (1075 - e - 32 - twos) in
-          let ticks : nearest (pos n *ℤ digits) P ≡ span .ticks = scaled-part 1 (2 ^ by) odd twos digits (pow-pos by) powers ∙ rw (one-* digits) (sym r) in
-          record {
-            is = all n ∙ ticks ∙ rw u (none n (span .ticks));
-            small = record {
-              units = rw u (lit≤ tt);
-              ticks = rw (← ticks) (part-few odd twos digits f (le-trans (le-of-lt (t .small)) (pow-mono {i = 53} {j = 1075 - e} (le-trans (lit≤ tt) g))));
-            };
-          }
-        where
-          n : ℕ
-          n = odd * 2 ^ twos
-
-          none : (n : ℕ) (z : ℤ) → z ≡ pos n *ℤ pos 0 +ℤ z
-          none n = rep _ (λ a b. simp lin (omega arith))
-
-          powers : 2 ^ twos * 2 ^ (32 + (1075 - e - 32 - twos)) ≡ 1 * P
-          powers = sym (pow-add 2 twos (32 + (1075 - e - 32 - twos))) ∙ ap (λ (z : ℕ). 2 ^ z) (go twos (1075 - e) (f .low) g) ∙ sym (one-mul P)
-            where
-              go : (a k : ℕ) → a ≤ 16 → 63 < k → a + (32 + (k - 32 - a)) ≡ k
-              go a k l m = omega arith
-
-      -- ---- whole units, which come off, and a part of 63 digits
-      abbrev units : ℤ
-      units = floorDiv digits P
-
-      abbrev rest : ℤ
-      rest = digits -ℤ pos P *ℤ units
-
-      units-few : Readable 10000000000 x → natAbs units ≤ 10000000000
-      units-few p =
-          floor-small digits P 10000000000 (pow-pos (1075 - e))
-          (le-of-mul-le-mul-left
-          (le-trans (in-units 10000000000 p v) (le-of-eq (ap (λ (z : ℕ). z * 10000000000) (sym whole) ∙ mul-assoc (2 ^ e) P 10000000000)))
-          (pow-pos e))
-
-      pub whole-part : (odd twos : ℕ) (span : Span) → Factored odd twos → Readable 10000000000 x → 1075 - e ≤ 63
-          → span .units ≡ units
-          → span .ticks ≡ nearest (pos odd *ℤ (pos (2 ^ (63 - (1075 - e))) *ℤ rest)) (2 ^ (32 + (31 - twos)))
-          → Rounded (odd * 2 ^ twos) x span
-      whole-part odd twos span f p g u r =
-          let by = 32 + (31 - twos) in
-          let ticks : nearest (pos n *ℤ rest) P ≡ span .ticks = scaled-part (2 ^ (63 - (1075 - e))) (2 ^ by) odd twos rest (pow-pos by) powers ∙ sym r in
+          let by = 1075 - e - 47 - twos in
           record {
             is =
-                all n
-                ∙ ap (λ (z : ℤ). nearest z P) (turn P n digits units)
-                ∙ nearest-plus (pos n *ℤ rest) (pos n *ℤ units) P (pow-pos (1075 - e))
-                ∙ +ℤ-comm (nearest (pos n *ℤ rest) P) (pos n *ℤ units)
-                ∙ rw (ticks, u);
-            small = record {
-              units = rw u (le-trans (units-few p) (lit≤ tt));
-              ticks = rw (← ticks) (part-few odd twos rest f (floor-rest digits P (pow-pos (1075 - e))));
-            };
+                rw u (none odd (span .rest))
+                ∙ r
+                ∙ ap (λ (z : ℤ). floorDiv (pos odd *ℤ z) (2 ^ (31 + by))) (sym (one-* digits))
+                ∙ sym (in-shares 1 (2 ^ (31 + by)) odd twos (pow-pos (31 + by)) (powers by));
+            small = record { units = rw u (lit≤ tt); rest = rw r (floor-small (pos odd *ℤ digits) (2 ^ (31 + by)) (2 ^ 53) (pow-pos (31 + by)) (sized by)) };
           }
         where
-          n : ℕ
-          n = odd * 2 ^ twos
+          none : (n : ℕ) (z : ℤ) → pos n *ℤ pos 0 +ℤ z ≡ z
+          none n = rep _ (λ a b. simp lin (omega arith))
 
-          turn : (d n : ℕ) (z u : ℤ) → pos n *ℤ z ≡ pos n *ℤ (z -ℤ pos d *ℤ u) +ℤ pos d *ℤ (pos n *ℤ u)
-          turn d n = rep₂ _ (λ a b c e. simp lin (omega arith))
-
-          powers : 2 ^ twos * 2 ^ (32 + (31 - twos)) ≡ 2 ^ (63 - (1075 - e)) * P
-          powers = sym (pow-add 2 twos (32 + (31 - twos))) ∙ ap (λ (z : ℕ). 2 ^ z) (go twos (1075 - e) (f .low) g) ∙ pow-add 2 (63 - (1075 - e)) (1075 - e)
+          powers : (by : ℕ) → 65536 * 2 ^ twos * 2 ^ (31 + (1075 - e - 47 - twos)) ≡ 1 * P
+          powers by =
+              ap (λ (z : ℕ). z * 2 ^ (31 + (1075 - e - 47 - twos))) (sym (pow-add 2 16 twos))
+              ∙ sym (pow-add 2 (16 + twos) (31 + (1075 - e - 47 - twos)))
+              ∙ ap (λ (z : ℕ). 2 ^ z) (go twos (1075 - e) g)
+              ∙ sym (one-mul P)
             where
-              go : (a k : ℕ) → a ≤ 16 → k ≤ 63 → a + (32 + (31 - a)) ≡ 63 - k + k
-              go a k l m = omega arith
+              go : (a k : ℕ) → 47 + a < k → 16 + a + (31 + (k - 47 - a)) ≡ k
+              go a k l = omega arith
+
+          sized : (by : ℕ) → natAbs (pos odd *ℤ digits) ≤ 2 ^ (31 + by) * 2 ^ 53
+          sized by =
+              size-* (pos odd) digits
+              (le-trans (f .small) (le-trans (lit≤ tt) (pow-mono {i = 31} {j = 31 + by} (le-add-right 31 by)))) (le-of-lt (t .small))
+
+      -- pieces
+      pub piece-part : (odd twos : ℕ) (span : Span) → 1075 - e ≤ 47 + twos
+          → Pieces odd (pos (2 ^ (47 + twos - (1075 - e))) *ℤ digits) span
+          → Counted odd twos x span
+      piece-part odd twos span g p = record {
+        is = p .is ∙ sym (in-shares (2 ^ (47 + twos - (1075 - e))) (2 ^ 31) odd twos (pow-pos 31) powers);
+        small = p .small;
+      }
+        where
+          powers : 65536 * 2 ^ twos * 2 ^ 31 ≡ 2 ^ (47 + twos - (1075 - e)) * P
+          powers =
+              ap (λ (z : ℕ). z * 2 ^ 31) (sym (pow-add 2 16 twos))
+              ∙ sym (pow-add 2 (16 + twos) 31)
+              ∙ ap (λ (z : ℕ). 2 ^ z) (go twos (1075 - e) g)
+              ∙ pow-add 2 (47 + twos - (1075 - e)) (1075 - e)
+            where
+              go : (a k : ℕ) → k ≤ 47 + a → 16 + a + 31 ≡ 47 + a - k + k
+              go a k l = omega arith
+
+-- ---- digits in pieces: what is left of one is cut to shares
+pub pieces-are : (odd : ℕ) (digits units rest : ℤ) → odd ≤ 1500000000 → natAbs units ≤ 2 ^ 59
+    → units ≡ floorDiv digits (2 ^ 31)
+    → rest ≡ floorDiv (pos odd *ℤ leftBy (2 ^ 31) digits) (2 ^ 31)
+    → Pieces odd digits (record { units = units; rest = rest })
+pieces-are odd digits units rest o l u r = record {
+  is = rw (u, r) (floor-split (pos odd) digits (floorDiv digits (2 ^ 31)) (2 ^ 31) (pow-pos 31));
+  small = record {
+    units = l;
+    rest = rw r (floor-small _ (2 ^ 31) (2 ^ 53) (pow-pos 31)
+        (le-trans (size-* (pos odd) (leftBy (2 ^ 31) digits) o (floor-rest digits (2 ^ 31) (pow-pos 31))) (lit≤ tt)));
+  };
+}
 
 -- a smaller range lies in a larger
 pub readable-wider : (a b : ℕ) (x : Float) → a ≤ b → Readable a x → Readable b x

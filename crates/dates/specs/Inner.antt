@@ -3,17 +3,19 @@ use mathlib.Core.Path.{_≡_}
 use mathlib.Core.Logic.{_⊎_}
 use mathlib.Core.Bool.{Bool, true, not, _&&_}
 use mathlib.Core.List.{List}
-use Prim.Native.Nat.{ℕ, _+_, _*_, _^_, _<_, _≤_}
+use Prim.Native.Nat.{ℕ, _+_, _*_, _/_, _^_, _<_, _≤_}
 use lib.Dec.{T}
-use lib.IntN.{ℤ, pos, natAbs, _+ℤ_, _*ℤ_}
+use lib.IntN.{ℤ, pos, natAbs, _+ℤ_, _-ℤ_, _*ℤ_}
+use lib.Signed.{_≤ℤ_}
 use lib.Ieee.{Float}
 use lib.Ieee.Scale.{finite}
 use Rattle.scales.specs.declared.scale.Purpose.{Purpose}
 use Rattle.scales.specs.declared.scale.Purpose.the-variants.{Utc}
+use Rattle.numbers.specs.Rounding.{floorDiv, nearest}
 use Rattle.utc.specs.Leaps.{isListRight}
 use Rattle.dates.specs.declared.span.Span.{Span}
 use Rattle.dates.specs.Doubles.{beyond, denominator, numerator}
-use Rattle.dates.specs.Ticks.{dayTicks, ticksRounded}
+use Rattle.dates.specs.Ticks.{dayTicks}
 
 -- ---- a double taken apart: digits·2^exponent units of 2^-1075, or less where the exponent is 0;
 -- the leading digit is in place
@@ -34,39 +36,79 @@ pub record Readable (most : ℕ) (x : Float) : Type 0 where
 
 -- ---- a unit, a day or a second, of odd·2^twos ticks
 pub record Factored (odd twos : ℕ) : Type 0 where
-  pub small : odd < 2147483648
+  pub some : 0 < odd
+  pub small : odd ≤ 1500000000
   pub high : 9 ≤ twos
   pub low : twos ≤ 16
 
--- what the product with such a factor is divided by, above 2^32
+-- so few units that their pieces fit 64 bits: 10^10 seconds, and more days than a date part has
+abbrev pub fewUnits : ℕ → ℕ
+fewUnits twos = 10000000000 * 2 ^ 9 / 2 ^ twos
+
+-- what the product with such an odd number is divided by, above 2^31
 pub record Cut (odd by : ℕ) : Type 0 where
-  pub small : odd < 2147483648
-  pub some : 1 ≤ by
+  pub small : odd ≤ 1500000000
   pub few : by ≤ 62
 
--- ---- a count of ticks too wide for 64 bits, in units of `per` ticks, and ticks
+-- what whole multiples of d leave of z
+abbrev pub leftBy : ℕ → ℤ → ℤ
+leftBy d z = z -ℤ pos d *ℤ floorDiv z d
+
+-- ---- a count in two, of units worth `per` of what the rest is counted in
 abbrev pub worth : ℤ → Span → ℤ
-worth per span = per *ℤ span .units +ℤ span .ticks
+worth per span = per *ℤ span .units +ℤ span .rest
 
--- at most so many units and ticks, either way
-pub record SpanWithin (most : ℕ) (span : Span) : Type 0 where
-  pub units : natAbs (span .units) ≤ most
-  pub ticks : natAbs (span .ticks) ≤ most
+-- at most so many of each, either way
+pub record SpanWithin (mostUnits mostRest : ℕ) (span : Span) : Type 0 where
+  pub units : natAbs (span .units) ≤ mostUnits
+  pub rest : natAbs (span .rest) ≤ mostRest
 
--- so small that a sum of two fits 64 bits, and that beyond 100,000 days the ticks do not lead back
--- into the range
+-- so small that a sum of two fits 64 bits
 abbrev pub modest : ℕ
-modest = 10000000000000000
+modest = 2 ^ 61
+
+-- so few ticks that beyond 100,000 days they do not lead back into the range
+abbrev pub fewTicks : ℕ
+fewTicks = 10000000000000000
 
 -- a span's two fields, told
-pub record Spanned (span : Span) (units ticks : ℤ) : Type 0 where
+pub record Spanned (span : Span) (units rest : ℤ) : Type 0 where
   pub unitsAre : span .units ≡ units
-  pub ticksAre : span .ticks ≡ ticks
+  pub restIs : span .rest ≡ rest
 
--- a date part, or seconds, to the nearest tick
-pub record Rounded (per : ℕ) (x : Float) (span : Span) : Type 0 where
-  pub is : ticksRounded per x ≡ worth (pos per) span
-  pub small : SpanWithin 1000000000000000 span
+-- ---- x units of `per` ticks in shares, 65,536ths of a tick, cut down
+unfoldable pub sharesOf : ℕ → Float → ℤ
+sharesOf per x = floorDiv (pos (65536 * per) *ℤ numerator x) (denominator x)
+
+-- digits taken for so many 2^-31 of a piece of `odd` shares, as pieces and shares
+pub record Pieces (odd : ℕ) (digits : ℤ) (span : Span) : Type 0 where
+  pub is : worth (pos odd) span ≡ floorDiv (pos odd *ℤ digits) (2 ^ 31)
+  pub small : SpanWithin (2 ^ 59) (2 ^ 53) span
+
+-- x units of odd·2^twos ticks, as pieces of `odd` shares, and shares
+pub record Counted (odd twos : ℕ) (x : Float) (span : Span) : Type 0 where
+  pub is : worth (pos odd) span ≡ sharesOf (odd * 2 ^ twos) x
+  pub small : SpanWithin (2 ^ 59) (2 ^ 53) span
+
+-- from 2^20 days on
+pub record Far (x : Float) : Type 0 where
+  pub readable : Readable 5000000 x
+  pub far : pos (2 ^ 20 * denominator x) ≤ℤ numerator x
+
+-- such a part as pieces, of which a day has 2^32: exactly
+pub record FarPieces (x : Float) (pieces : ℤ) : Type 0 where
+  pub is : pos (denominator x) *ℤ pieces ≡ pos (2 ^ 32) *ℤ numerator x
+  pub small : natAbs pieces ≤ 2 ^ 59
+
+-- both parts of a date
+pub record CountedSum (first second : Float) (span : Span) : Type 0 where
+  pub is : worth (pos 1318359375) span ≡ sharesOf dayTicks first +ℤ sharesOf dayTicks second
+  pub small : SpanWithin (2 ^ 60) (2 ^ 54) span
+
+-- shares to the nearest tick, as units of `per` ticks, and ticks
+pub record Rounded (per : ℕ) (shares : ℤ) (span : Span) : Type 0 where
+  pub is : nearest shares 65536 ≡ worth (pos per) span
+  pub small : SpanWithin 100000000000 1000000000000000 span
 
 -- `most` units of `per` ticks are 100,000 days
 pub record Reach (per most : ℤ) : Type 0 where

@@ -12,8 +12,7 @@ dayTicks = 86400000000000
 abbrev pub secondTicks : ℕ
 secondTicks = 1000000000
 
--- a double of days or of seconds, `per` ticks each, 'rounded to its nearest tick (halves to the
--- greater)'
+-- a double of units of `per` ticks each, 'rounded to its nearest tick (halves to the greater)'
 unfoldable pub ticksRounded : ℕ → Float → ℤ
 ticksRounded per x = nearest (pos per *ℤ numerator x) (denominator x)
 
@@ -26,9 +25,21 @@ origin = 24431445003725 * (dayTicks / 10 ^ 7)
 abbrev pub j2000 : ℤ
 j2000 = pos (2451545 * dayTicks) -ℤ pos origin
 
--- 'Each date part is rounded to its nearest tick (halves to the greater) and the two are added'
+-- 'the exact sum of both parts', of request 2026-02: a fraction, its denominators multiplied out
+unfoldable pub sumNumerator : Float → Float → ℤ
+sumNumerator first second =
+    pos (denominator second) *ℤ numerator first +ℤ pos (denominator first) *ℤ numerator second
+
+unfoldable pub sumDenominator : Float → Float → ℕ
+sumDenominator first second = denominator first * denominator second
+
+-- 'the exact sum of both parts is rounded once', halves to the greater: a function of that sum
+-- alone, which is n / d days
+unfoldable pub tickOfSum : ℤ → ℕ → ℤ
+tickOfSum n d = nearest (pos dayTicks *ℤ n) d -ℤ pos origin
+
 unfoldable pub tickOfDate : Float → Float → ℤ
-tickOfDate first second = ticksRounded dayTicks first +ℤ ticksRounded dayTicks second -ℤ pos origin
+tickOfDate first second = tickOfSum (sumNumerator first second) (sumDenominator first second)
 
 -- 'seconds are rounded once'
 unfoldable pub tickOfSeconds : Float → ℤ

@@ -5,8 +5,13 @@ use crate::limits::both_pass;
 use crate::limits::is_finite;
 use crate::span::Span;
 use crate::span::plus;
-use crate::ticks::ticks_of_days;
-use crate::ticks::ticks_of_seconds;
+use crate::ticks::DAY_ODD;
+use crate::ticks::DAY_TWOS;
+use crate::ticks::SECOND_ODD;
+use crate::ticks::SECOND_TWOS;
+use crate::ticks::count_of_seconds;
+use crate::ticks::rounded;
+use crate::ticks::sum_of_days;
 use scales::answer::Read;
 use scales::refusal::Refusal;
 use scales::scale::Purpose;
@@ -16,7 +21,8 @@ ghost use mathlib.Core.Path.{_≡_};
 ghost use mathlib.Core.Bool.{false, _&&_};
 ghost use Rattle.dates.specs.Readings.{inRange, mostDays, readOf, readOfDate, readOfParts};
 ghost use Rattle.dates.specs.Readings.{readOfSeconds, purposeOf, refusedWith};
-ghost use Rattle.dates.specs.Inner.{Listed, Reach, SpanWithin, modest, passing, worth};
+ghost use Rattle.dates.specs.Inner.{Listed, Reach, SpanWithin, fewTicks, modest, passing};
+ghost use Rattle.dates.specs.Inner.{worth};
 
 // 'A reading is a two-part Julian date in days, two doubles; or seconds past J2000, one double; or
 // ticks.' 'A UTC reading is a Modified Julian Day and ticks within the day.'
@@ -57,7 +63,7 @@ pub fn ranged(tick: i64) -> Read
 // So many units of `per` ticks, and ticks. `most` units are 100,000 days: beyond them, either way,
 // no ticks of a span bring it back into the range, and up to there it fits 64 bits.
 fn placed(span: Span, per: i64, most: i64) -> Read
-    requires { ⌜ SpanWithin modest span ⌝ }
+    requires { ⌜ SpanWithin modest fewTicks span ⌝ }
     requires { ⌜ Reach per most ⌝ }
     ensures { λ r. ⌜ r ≡ inRange (worth per span) ⌝ }
 {
@@ -68,7 +74,7 @@ fn placed(span: Span, per: i64, most: i64) -> Read
     if units < -most {
         return refused(4, 0);
     }
-    ranged(units * per + span.ticks)
+    ranged(units * per + span.rest)
 }
 
 // The refusal of two parts of which one does not pass: '2 over both parts, 3 over both parts (the
@@ -89,18 +95,18 @@ fn no_date(first: f64, second: f64) -> Read
     refused(3, SECOND)
 }
 
-// Both parts, each to its nearest tick, less Julian date 2443144.5003725, which is 2,443,144 days
-// and 43,232.184 s.
+// 'the exact sum of both parts is rounded once', less Julian date 2443144.5003725, which is
+// 2,443,144 days and 43,232.184 s.
 fn two_part(first: f64, second: f64) -> Read
     ensures { λ r. ⌜ r ≡ readOfParts first second ⌝ }
 {
     if !both_pass(first, second) {
         return no_date(first, second);
     }
-    let sum = plus(ticks_of_days(first), ticks_of_days(second));
+    let sum = rounded(sum_of_days(first, second), DAY_ODD, DAY_TWOS);
     let origin = Span {
         units: -2_443_144,
-        ticks: -43_232_184_000_000,
+        rest: -43_232_184_000_000,
     };
     placed(plus(sum, origin), 86_400_000_000_000, 100_000)
 }
@@ -117,13 +123,10 @@ fn since_j2000(seconds: f64) -> Read
     }
     let j2000 = Span {
         units: 725_803_167,
-        ticks: 816_000_000,
+        rest: 816_000_000,
     };
-    placed(
-        plus(ticks_of_seconds(seconds), j2000),
-        1_000_000_000,
-        8_640_000_000,
-    )
+    let count = rounded(count_of_seconds(seconds), SECOND_ODD, SECOND_TWOS);
+    placed(plus(count, j2000), 1_000_000_000, 8_640_000_000)
 }
 
 // What the first code is read for.

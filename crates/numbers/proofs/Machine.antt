@@ -1,12 +1,15 @@
 -- What an `i64` of the code says of integers: that a number fits and reads back from its bits, what
--- a test of two of them leaves, tests that say the same, and that >> is a floor. Assumes nothing.
-use mathlib.Core.Path.{_≡_, refl, sym, subst, _∙_}
+-- a test of two of them leaves, tests that say the same, and that >> is a floor and << a product.
+-- Assumes nothing.
+use mathlib.Core.Path.{_≡_, refl, sym, ap, subst, _∙_}
 use mathlib.Core.Bool.{Bool, true, false, not, _&&_}
 use mathlib.Core.Logic.{⊎-elim}
-use Prim.Native.Nat.{ℕ, _+_, _^_, _<_, _≤_, zero-le}
+use Prim.Native.Nat.{ℕ, suc, _+_, _-_, _*_, _%_, _^_, _<_, _≤_, zero-le}
+use native.Mathlib.Nat.{zero-lt-suc, le-trans, le-of-eq, add-mul, mul-comm, mul-one, mul-pos, mul-le-mul-left, mod-eq-of-lt}
 use native.Mathlib.Omega.{arith}
 use lib.Dec.{T, leb, leb→le, le→leb, lt→ltb, ltb→lt}
-use lib.IntN.{ℤ, pos, negsuc, negℤ, natAbs, _-ℤ_, +ℤ-idl}
+use lib.IntN.{ℤ, pos, negsuc, negℤ, natAbs, _-ℤ_, _*ℤ_, +ℤ-idl}
+use lib.Pow.{pow-pos}
 use lib.Signed.{_≤ℤ_, _<ℤ_, ltZ, leZ, ltZ-no, shrZ, nonNeg}
 use Rattle.numbers.proofs.Differences.{rep₂, lin, rep}
 use Rattle.numbers.proofs.Order.{le-pos, ≤-total, abs-neg}
@@ -153,3 +156,25 @@ flipped (negsuc k) f l = let h = f .sfits in record {
 pub natural-cast : (z : ℤ) → SFits w64 z → pos 0 ≤ℤ z → T (nonNeg z) × Fits w64 (natAbs z)
 natural-cast (pos k) f l = let h = f .sfits in (tt, record { fits = omega arith })
 natural-cast (negsuc k) f l = absurd (l .le)
+
+-- ---- z << k is 2^k·z, where that fits
+shl-bits : (n p : ℕ) → 0 < p → suc n * p < 9223372036854775808
+    → (18446744073709551616 - suc n) * p % 18446744073709551616 ≡ 18446744073709551616 - suc (suc n * p - 1)
+shl-bits n p h l =
+    let some : suc n ≤ suc n * p = le-trans (le-of-eq (sym (mul-one (suc n)))) (mul-le-mul-left (suc n) h) in
+    let all = add-mul (suc n) (18446744073709551616 - suc n) p in
+    let whole : suc n + (18446744073709551616 - suc n) ≡ 18446744073709551616 = omega arith in
+    omega (arith, all, ap (λ (c : ℕ). c * p) whole)
+
+shl-sign : (n p : ℕ) → 0 < suc n * p → negsuc (suc n * p - 1) ≡ pos p *ℤ negsuc n
+shl-sign n p h = simp lin (omega (arith, mul-comm (suc n) p))
+
+pub shl-is : (z : ℤ) (k : ℕ) → natAbs z * 2 ^ k < 2 ^ 63
+    → toZ w64 (ofZ w64 z * 2 ^ k % 18446744073709551616) ≡ pos (2 ^ k) *ℤ z
+shl-is (pos n) k h =
+    let small : n * 2 ^ k < 18446744073709551616 = omega arith in
+    ap (toZ w64) (mod-eq-of-lt small) ∙ toZ-pos w64 (n * 2 ^ k) h ∙ ap pos (mul-comm n (2 ^ k))
+shl-is (negsuc n) k h =
+    ap (toZ w64) (shl-bits n (2 ^ k) (pow-pos k) h)
+    ∙ toZ-ofZ w64 (negsuc (suc n * 2 ^ k - 1)) (record { sfits = omega arith })
+    ∙ shl-sign n (2 ^ k) (mul-pos (zero-lt-suc n) (pow-pos k))

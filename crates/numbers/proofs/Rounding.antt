@@ -1,17 +1,18 @@
 -- Floor division and nearest: the two bounds that determine each, and what follows from them. A
 -- kernel's proof shows the bounds of the number that it computes and ends by `floor-is` or
 -- `nearest-is`; nothing above this file opens the two definitions. Assumes nothing.
-use mathlib.Core.Path.{_≡_, sym, ap, _∙_}
+use mathlib.Core.Path.{_≡_, sym, ap, ap₂, _∙_}
 use mathlib.Core.Logic.{⊎-elim}
 use Prim.Native.Nat.{ℕ, _+_, _*_, _/_, _≤_, _<_}
-use native.Mathlib.Nat.{div-add-mod', mod-lt, mul-comm, mul-suc, mul-pos, mul-le-mul-right, mul-le-mul-left, le-of-mul-le-mul-left, lt-of-mul-lt-mul-left}
+use native.Mathlib.Nat.{le-of-lt, div-add-mod', mod-lt, mul-comm, mul-left-comm, mul-suc, mul-pos, mul-le-mul-right, mul-le-mul-left}
+use native.Mathlib.Nat.{mul-lt-mul-of-pos-left, le-of-mul-le-mul-left, lt-of-mul-lt-mul-left}
 use native.Mathlib.Omega.{arith}
 use lib.IntN.{ℤ, pos, negsuc, _+ℤ_, _-ℤ_, _*ℤ_, natAbs, +ℤ-comm}
 use lib.Signed.{_≤ℤ_, _<ℤ_, ≤ℤ-refl}
 use Rattle.numbers.specs.Rounding.{floorDiv, nearest}
 use Rattle.numbers.proofs.Differences.{rep, rep₂, rep₃, rep₄, lin, sizes}
 use Rattle.numbers.proofs.Ring.{*-assoc}
-use Rattle.numbers.proofs.Order.{≤-antisym, ≤-total, abs-*}
+use Rattle.numbers.proofs.Order.{≤-antisym, ≤-total, 0≤*, abs-*, le-pos}
 use lib.Dec.{lit<}
 
 -- ---- floor: d·q ≤ x < d·q + d
@@ -69,6 +70,101 @@ floor-plus x k d h =
     floor-is (x +ℤ pos d *ℤ k) (floorDiv x d +ℤ k) d h
     (record { under = moved-under d x (floorDiv x d) k (f .under); above = moved-above d x (floorDiv x d) k (f .above) })
 
+-- less than the divisor either way is none, or one below
+pub floor-none : (z : ℤ) (d : ℕ) → pos 0 ≤ℤ z → natAbs z < d → floorDiv z d ≡ pos 0
+floor-none z d l h = floor-is z (pos 0) d (omega arith) (record { under = low z l; above = high z h })
+  where
+    low : (z : ℤ) → pos 0 ≤ℤ z → (pos d *ℤ pos 0) ≤ℤ z
+    low = rep _ (λ a b. simp lin (omega arith))
+
+    high : (z : ℤ) → natAbs z < d → z <ℤ (pos d *ℤ pos 0 +ℤ pos d)
+    high = rep _ (λ a b. simp sizes (omega arith))
+
+pub floor-below : (z : ℤ) (d : ℕ) → z <ℤ pos 0 → natAbs z ≤ d → floorDiv z d ≡ negsuc 0
+floor-below z d l h = floor-is z (negsuc 0) d (some z l h) (record { under = low z l h; above = high z l })
+  where
+    some : (z : ℤ) → z <ℤ pos 0 → natAbs z ≤ d → 0 < d
+    some = rep _ (λ a b. simp lin (omega arith))
+
+    low : (z : ℤ) → z <ℤ pos 0 → natAbs z ≤ d → (pos d *ℤ negsuc 0) ≤ℤ z
+    low = rep _ (λ a b. simp lin (omega arith))
+
+    high : (z : ℤ) → z <ℤ pos 0 → z <ℤ (pos d *ℤ negsuc 0 +ℤ pos d)
+    high = rep _ (λ a b. simp lin (omega arith))
+
+-- so a factor that leads no further changes nothing
+pub floor-tiny : (z : ℤ) (d k : ℕ) → 0 < k → k * natAbs z < d → floorDiv (pos k *ℤ z) d ≡ floorDiv z d
+floor-tiny z d k h l = ⊎-elim
+    (λ (s : pos 0 ≤ℤ z). floor-none (pos k *ℤ z) d (0≤* (pos k) z (le-pos 0 k (le-of-lt h)) s) many ∙ sym (floor-none z d s one))
+    (λ (s : z <ℤ pos 0). floor-below (pos k *ℤ z) d (minus z h s) (le-of-lt many) ∙ sym (floor-below z d s (le-of-lt one)))
+    (≤-total (pos 0) z)
+  where
+    many : natAbs (pos k *ℤ z) < d
+    many = rw (abs-* (pos k) z) l
+
+    one : natAbs z < d
+    one = omega (arith, mul-le-mul-right (natAbs z) h)
+
+    minus : (z : ℤ) → 0 < k → z <ℤ pos 0 → (pos k *ℤ z) <ℤ pos 0
+    minus = rep _ (λ a b. simp lin (λ h s. omega (arith, mul-lt-mul-of-pos-left s h)))
+
+-- a multiple of the divisor is divided exactly
+pub floor-exact : (q : ℤ) (d : ℕ) → 0 < d → floorDiv (pos d *ℤ q) d ≡ q
+floor-exact q d h = floor-is (pos d *ℤ q) q d h (record { under = ≤ℤ-refl (pos d *ℤ q); above = high q h })
+  where
+    high : (q : ℤ) → 0 < d → (pos d *ℤ q) <ℤ (pos d *ℤ q +ℤ pos d)
+    high = rep _ (λ a b. simp lin (omega arith))
+
+pub *-cancel : (d : ℕ) (x y : ℤ) → 0 < d → pos d *ℤ x ≡ pos d *ℤ y → x ≡ y
+*-cancel d x y h e = sym (floor-exact x d h) ∙ ap (λ (z : ℤ). floorDiv z d) e ∙ floor-exact y d h
+
+-- a fraction may be reduced: a common factor g goes out
+pub floor-reduced : (z : ℤ) (d g : ℕ) → 0 < d → 0 < g → floorDiv (pos g *ℤ z) (g * d) ≡ floorDiv z d
+floor-reduced z d g h k =
+    let f = floored z d h in
+    floor-is (pos g *ℤ z) (floorDiv z d) (g * d) (omega (arith, mul-le-mul-right d k))
+    (record { under = low z (floorDiv z d) (f .under); above = high z (floorDiv z d) (f .above) })
+  where
+    low : (z q : ℤ) → (pos d *ℤ q) ≤ℤ z → (pos (g * d) *ℤ q) ≤ℤ (pos g *ℤ z)
+    low = rep₂ _ (λ a b c e. simp lin (λ h. omega (arith, mul-le-mul-left g h)))
+
+    high : (z q : ℤ) → z <ℤ (pos d *ℤ q +ℤ pos d) → (pos g *ℤ z) <ℤ (pos (g * d) *ℤ q +ℤ pos (g * d))
+    high = rep₂ _ (λ a b c e. simp lin (λ h. omega (arith, mul-le-mul-left g h)))
+
+-- equal fractions, z / b and w / d, have one floor
+pub floor-same : (z w : ℤ) (b d : ℕ) → 0 < b → 0 < d → pos d *ℤ z ≡ pos b *ℤ w → floorDiv z b ≡ floorDiv w d
+floor-same z w b d h k e =
+    sym (floor-reduced z b d h k) ∙ ap (λ (x : ℤ). floorDiv x (d * b)) e ∙ ap (floorDiv (pos b *ℤ w)) (mul-comm d b) ∙ floor-reduced w d b k h
+
+-- the floor of a sum of two fractions, x / b and y / d, of which the first is a whole number
+pub floor-sum : (x y w : ℤ) (b d : ℕ) → 0 < b → 0 < d → x ≡ pos b *ℤ w
+    → floorDiv (pos d *ℤ x +ℤ pos b *ℤ y) (b * d) ≡ w +ℤ floorDiv y d
+floor-sum x y w b d h k e =
+    ap (λ (z : ℤ). floorDiv (pos d *ℤ z +ℤ pos b *ℤ y) (b * d)) e
+    ∙ ap (λ (z : ℤ). floorDiv z (b * d)) (out y w)
+    ∙ floor-reduced (y +ℤ pos d *ℤ w) d b k h
+    ∙ floor-plus y w d k
+    ∙ +ℤ-comm (floorDiv y d) w
+  where
+    out : (y w : ℤ) → pos d *ℤ (pos b *ℤ w) +ℤ pos b *ℤ y ≡ pos b *ℤ (y +ℤ pos d *ℤ w)
+    out = rep₂ _ (λ a c e f. simp lin (omega arith))
+
+-- a floor of a floor is one
+pub floor-of-floor : (z : ℤ) (d e : ℕ) → 0 < d → 0 < e → floorDiv (floorDiv z d) e ≡ floorDiv z (d * e)
+floor-of-floor z d e h k =
+    let f = floorDiv z d in
+    let q = floorDiv f e in
+    let i = floored z d h in
+    let o = floored f e k in
+    sym (floor-is z q (d * e) (mul-pos h k) (record { under = low z f q (o .under) (i .under); above = high z f q (o .above) (i .above) }))
+  where
+    low : (z f q : ℤ) → (pos e *ℤ q) ≤ℤ f → (pos d *ℤ f) ≤ℤ z → (pos (d * e) *ℤ q) ≤ℤ z
+    low = rep₃ _ (λ a b c g i j. simp lin (λ h k. omega (arith, mul-le-mul-left d h)))
+
+    high : (z f q : ℤ) → f <ℤ (pos e *ℤ q +ℤ pos e) → z <ℤ (pos d *ℤ f +ℤ pos d)
+        → z <ℤ (pos (d * e) *ℤ q +ℤ pos (d * e))
+    high = rep₃ _ (λ a b c g i j. simp lin (λ h k. omega (arith, mul-le-mul-left d h)))
+
 -- ---- nearest: 2·d·q ≤ 2z + d < 2·d·q + 2·d
 pub record Near (z : ℤ) (d : ℕ) (q : ℤ) : Type 0 where
   pub under : (pos 2 *ℤ (pos d *ℤ q)) ≤ℤ (pos 2 *ℤ z +ℤ pos d)
@@ -121,23 +217,35 @@ nearest-plus z k d h =
 
 -- a fraction may be reduced: a common factor g goes out
 pub nearest-reduced : (z : ℤ) (d g : ℕ) → 0 < d → 0 < g → nearest (pos g *ℤ z) (g * d) ≡ nearest z d
+unfolding nearest
 nearest-reduced z d g h k =
-    let n = near z d h in
-    nearest-is (pos g *ℤ z) (nearest z d) (g * d) (omega (arith, mul-le-mul-right d k))
-    (record { under = low z (nearest z d) (n .under); above = high z (nearest z d) (n .above) })
+    ap₂ floorDiv (out z) (mul-left-comm 2 g d) ∙ floor-reduced (pos 2 *ℤ z +ℤ pos d) (2 * d) g (omega arith) k
   where
-    low : (z q : ℤ) → (pos 2 *ℤ (pos d *ℤ q)) ≤ℤ (pos 2 *ℤ z +ℤ pos d)
-        → (pos 2 *ℤ (pos (g * d) *ℤ q)) ≤ℤ (pos 2 *ℤ (pos g *ℤ z) +ℤ pos (g * d))
-    low = rep₂ _ (λ a b c e. simp lin (λ h. omega (arith, mul-le-mul-right g h)))
-
-    high : (z q : ℤ) → (pos 2 *ℤ z +ℤ pos d) <ℤ (pos 2 *ℤ (pos d *ℤ q) +ℤ pos 2 *ℤ pos d)
-        → (pos 2 *ℤ (pos g *ℤ z) +ℤ pos (g * d)) <ℤ (pos 2 *ℤ (pos (g * d) *ℤ q) +ℤ pos 2 *ℤ pos (g * d))
-    high = rep₂ _ (λ a b c e. simp lin (λ h. omega (arith, mul-le-mul-right g h)))
+    out : (z : ℤ) → pos 2 *ℤ (pos g *ℤ z) +ℤ pos (g * d) ≡ pos g *ℤ (pos 2 *ℤ z +ℤ pos d)
+    out = rep _ (λ a b. simp lin (omega arith))
 
 -- equal fractions, z / b and w / d, are rounded alike
 pub nearest-same : (z w : ℤ) (b d : ℕ) → 0 < b → 0 < d → pos d *ℤ z ≡ pos b *ℤ w → nearest z b ≡ nearest w d
 nearest-same z w b d h k e =
     sym (nearest-reduced z b d h k) ∙ ap (λ (x : ℤ). nearest x (d * b)) e ∙ ap (nearest (pos b *ℤ w)) (mul-comm d b) ∙ nearest-reduced w d b k h
+
+-- fractions in order, z / b ≤ w / d, are rounded in order
+pub nearest-keeps : (z w : ℤ) (b d : ℕ) → 0 < b → 0 < d → (pos d *ℤ z) ≤ℤ (pos b *ℤ w) → nearest z b ≤ℤ nearest w d
+nearest-keeps z w b d h k l =
+    let left : nearest (pos d *ℤ z) (d * b) ≡ nearest z b = nearest-reduced z b d h k in
+    let right : nearest (pos b *ℤ w) (d * b) ≡ nearest w d = ap (nearest (pos b *ℤ w)) (mul-comm d b) ∙ nearest-reduced w d b k h in
+    rw (← left, ← right) (nearest-order (pos d *ℤ z) (pos b *ℤ w) (d * b) (mul-pos k h) l)
+
+-- the nearest of a sum of two fractions, x / b and y / d, of which the first is a whole number
+pub nearest-sum : (x y w : ℤ) (b d : ℕ) → 0 < b → 0 < d → x ≡ pos b *ℤ w
+    → nearest (pos d *ℤ x +ℤ pos b *ℤ y) (b * d) ≡ w +ℤ nearest y d
+unfolding nearest
+nearest-sum x y w b d h k e =
+    ap₂ floorDiv (out x y) (mul-left-comm 2 b d) ∙ floor-sum x (pos 2 *ℤ y +ℤ pos d) w b (2 * d) h (omega arith) e
+  where
+    out : (x y : ℤ)
+        → pos 2 *ℤ (pos d *ℤ x +ℤ pos b *ℤ y) +ℤ pos (b * d) ≡ pos (2 * d) *ℤ x +ℤ pos b *ℤ (pos 2 *ℤ y +ℤ pos d)
+    out = rep₂ _ (λ a c e f. simp lin (omega arith))
 
 -- less than half of the divisor is none
 pub nearest-none : (z : ℤ) (d : ℕ) → 2 * natAbs z < d → nearest z d ≡ pos 0
@@ -207,6 +315,24 @@ nearest-cut z d half h k =
     let o = floored (f +ℤ pos half) (2 * half) (omega arith) in
     nearest-is z q (d * (2 * half)) (mul-pos h (omega arith))
     (record { under = cut-under d half z f q (o .under) (i .under); above = cut-above d half z f q (o .above) (i .above) })
+
+-- an even divisor
+pub nearest-even : (z : ℤ) (half : ℕ) → 0 < half → nearest z (2 * half) ≡ floorDiv (z +ℤ pos half) (2 * half)
+unfolding nearest
+nearest-even z half h =
+    ap (λ (x : ℤ). floorDiv x (2 * (2 * half))) (out z) ∙ floor-reduced (z +ℤ pos half) (2 * half) 2 (omega arith) (lit< tt)
+  where
+    out : (z : ℤ) → pos 2 *ℤ z +ℤ pos (2 * half) ≡ pos 2 *ℤ (z +ℤ pos half)
+    out = rep _ (λ a b. simp lin (omega arith))
+
+-- a fraction may be cut to an even part of one before it is rounded
+pub nearest-of-floor : (z : ℤ) (d half : ℕ) → 0 < d → 0 < half
+    → nearest z d ≡ nearest (floorDiv (pos (2 * half) *ℤ z) d) (2 * half)
+nearest-of-floor z d half h k =
+    sym (nearest-reduced z d (2 * half) h (omega arith))
+    ∙ ap (nearest (pos (2 * half) *ℤ z)) (mul-comm (2 * half) d)
+    ∙ nearest-cut (pos (2 * half) *ℤ z) d half h k
+    ∙ sym (nearest-even (floorDiv (pos (2 * half) *ℤ z) d) half k)
 
 pub nearest-twice : (z : ℤ) (d : ℕ) → 0 < d → nearest z (2 * d) ≡ floorDiv (floorDiv z d +ℤ pos 1) 2
 nearest-twice z d h = ap (nearest z) (mul-comm 2 d) ∙ nearest-cut z d 1 h (lit< tt)

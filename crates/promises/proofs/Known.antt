@@ -119,8 +119,7 @@ a and b = (a, b)
 
 pub known : AllHold rows
 unfolding convertInto convertRead settled betweenOf readOf readOfParts inRange walkOf lineStep keptIn isValid nearestTick exact nearest floorDiv
-    ticks.tickOfDate
-    ticks.ticksRounded numerator denominator beyond readNumber readTick
+    ticks.tickOfDate ticks.tickOfSum ticks.sumNumerator ticks.sumDenominator numerator denominator beyond readNumber readTick
 known =
     -- P1 to P6
     gives _ _ _ _ refl and gives _ _ _ _ refl and gives _ _ _ _ refl and gives _ _ _ _ refl and gives _ _ _ _ refl

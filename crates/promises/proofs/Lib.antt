@@ -2,7 +2,8 @@
 -- promise stands:
 --
 -- Demand 3, the three statements: `Distance` (distance), `Order` (in-order), `ThereAndBack`
--- (there-and-back). Of UTC, order and there and back: `Utc`.
+-- (there-and-back). Of UTC, order and there and back: `Utc`. Of dates, by the exact sum of their
+-- parts: `Splits` (splits-alike, dates-in-order).
 --
 -- Demand 2. The known values P1 to P13, one table and one statement: `Known` (known). The page's
 -- example of lines: `Example` (page-answered). What an accepted answer carries: `Answers`
@@ -30,6 +31,7 @@ pub mod Exactly
 pub mod Parts
 pub mod Answers
 pub mod Order
+pub mod Splits
 pub mod Returning
 pub mod ThereAndBack
 pub mod Distance

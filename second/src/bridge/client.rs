@@ -3,6 +3,7 @@
 use super::wire::{self, ANSWER_NUMBERS, Arguments, Fields, GIVEN, NOTHING, SAME};
 use crate::compare::{Asked, Called, Desk, Lent, Outcome, bytes_of_ticks};
 use std::io::{self, ErrorKind, Read, Write};
+use std::net::Shutdown;
 use std::os::fd::OwnedFd;
 use std::os::unix::net::UnixStream;
 use std::process::{Child, Command};
@@ -61,7 +62,7 @@ struct Came {
 pub struct Bridge {
     child: Child,
     line: Line,
-    requests: u64,
+    answers: u64,
     /// The table that was given last; the bridge still has it.
     table: Option<Vec<u8>>,
 }
@@ -84,7 +85,8 @@ impl Bridge {
     pub fn start(command: &[&str], limit: Duration) -> Result<Bridge, String> {
         let mut bridge = Bridge::spawn(command, limit)
             .map_err(|error| format!("the bridge cannot be started: {error}"))?;
-        match bridge.ask(wire::NONE, [0; 4], &Lent::default()) {
+        let request = bridge.request(wire::NONE, [0; 4], &Lent::default());
+        match bridge.send(&request).and_then(|()| bridge.receive(0)) {
             Ok(_) => Ok(bridge),
             Err(error) => Err(bridge.loss(error)),
         }
@@ -107,7 +109,7 @@ impl Bridge {
                 limit,
                 begin: Instant::now(),
             },
-            requests: 0,
+            answers: 0,
             table: None,
         })
     }
@@ -137,20 +139,25 @@ impl Bridge {
         bytes
     }
 
-    fn ask(&mut self, function: u64, arguments: Arguments, lent: &Lent) -> io::Result<Came> {
-        let request = self.request(function, arguments, lent);
-        self.requests += 1;
+    fn send(&mut self, requests: &[u8]) -> io::Result<()> {
         self.line.begin = Instant::now();
-        self.line.write_all(&request)?;
-        let mut bytes = vec![0; 8 * ANSWER_NUMBERS + lent.buffer.len()];
+        self.line.write_all(requests)
+    }
+
+    /// The next answer, to a request that lent a buffer of so many bytes. Its time
+    /// runs from the sending, or from the answer before.
+    fn receive(&mut self, buffer: usize) -> io::Result<Came> {
+        let mut bytes = vec![0; 8 * ANSWER_NUMBERS + buffer];
         self.line.read_exact(&mut bytes)?;
+        self.line.begin = Instant::now();
+        self.answers += 1;
         let buffer = bytes.split_off(8 * ANSWER_NUMBERS);
         let mut head = [0; ANSWER_NUMBERS];
         for (place, number) in head.iter_mut().zip(wire::numbers(&bytes)) {
             *place = number;
         }
         let [request, seen, fields @ ..] = head;
-        if request != self.requests {
+        if request != self.answers {
             return Err(nonsense("an answer to another request"));
         }
         if seen >> wire::SEEN.len() != 0 {
@@ -163,9 +170,8 @@ impl Bridge {
         })
     }
 
-    fn called(&mut self, asked: Asked, lent: &Lent) -> io::Result<Called> {
-        let (function, arguments) = wire::numbers_of(asked);
-        let came = self.ask(function, arguments, lent)?;
+    fn called(&mut self, asked: Asked, buffer: usize) -> io::Result<Called> {
+        let came = self.receive(buffer)?;
         let reply = wire::reply_of(asked, came.fields);
         let seen = (0..wire::SEEN.len()).filter(|bit| came.seen >> bit & 1 == 1);
         Ok(Called {
@@ -175,8 +181,8 @@ impl Bridge {
         })
     }
 
-    /// Says why there is no answer, and stops the bridge: what it might still
-    /// say would be taken for the answer to another request.
+    /// Says why there is no answer, and stops the bridge: what it has said since,
+    /// or might still say, would be taken for the answer to another request.
     fn loss(&mut self, error: io::Error) -> String {
         let what = match error.kind() {
             ErrorKind::WouldBlock | ErrorKind::TimedOut => {
@@ -190,6 +196,7 @@ impl Bridge {
         };
         // It may have ended already.
         let _ = self.child.kill();
+        let _ = self.line.socket.shutdown(Shutdown::Both);
         what
     }
 
@@ -207,6 +214,31 @@ impl Bridge {
 
 impl Desk for Bridge {
     fn call(&mut self, asked: Asked, lent: &Lent) -> Outcome {
-        self.called(asked, lent).map_err(|error| self.loss(error))
+        self.calls(&[asked], lent).remove(0)
+    }
+
+    /// All are sent before the first answer is read, so that no end waits for the
+    /// other at every call. The socket must hold all of them, lest both ends wait
+    /// for the other to read: it does where no list and no buffer is lent.
+    fn calls(&mut self, asked: &[Asked], lent: &Lent) -> Vec<Outcome> {
+        let request = |asked: &Asked| {
+            let (function, arguments) = wire::numbers_of(*asked);
+            self.request(function, arguments, lent)
+        };
+        let requests: Vec<Vec<u8>> = asked.iter().map(request).collect();
+        if let Err(error) = self.send(&requests.concat()) {
+            return vec![Err(self.loss(error))];
+        }
+        let mut outcomes = Vec::new();
+        for asked in asked {
+            match self.called(*asked, lent.buffer.len()) {
+                Ok(called) => outcomes.push(Ok(called)),
+                Err(error) => {
+                    outcomes.push(Err(self.loss(error)));
+                    break;
+                }
+            }
+        }
+        outcomes
     }
 }

@@ -233,4 +233,10 @@ pub type Outcome = Result<Called, String>;
 /// The functions to be compared.
 pub trait Desk {
     fn call(&mut self, asked: Asked, lent: &Lent) -> Outcome;
+
+    /// Some hundred calls, one after the other, all of them lent the same. After
+    /// an outcome that says why the desk broke down there may be no other.
+    fn calls(&mut self, asked: &[Asked], lent: &Lent) -> Vec<Outcome> {
+        asked.iter().map(|asked| self.call(*asked, lent)).collect()
+    }
 }

@@ -18,11 +18,13 @@ pub struct Staged {
     pub ticks: Vec<i64>,
 }
 
-/// How much is compared: tables, and conversions for each table.
+/// How much is compared: tables, conversions for each table, and dates split in
+/// two around a half of a tick.
 #[derive(Clone, Copy, Debug)]
 pub struct Size {
     pub tables: usize,
     pub conversions: usize,
+    pub splits: u64,
 }
 
 impl Size {

@@ -1,7 +1,7 @@
 //! A desk on trial: it is asked what second is asked, and every difference is
 //! noted.
 
-use super::interface::{Asked, Called, Desk, Lent};
+use super::interface::{Asked, Called, Desk, Lent, Outcome};
 use super::ledger::Ledger;
 use super::own::Own;
 use crate::dates::Reading;
@@ -28,15 +28,28 @@ impl<'a> Trial<'a> {
         }
     }
 
-    /// Makes one call of both, by null pointers or not. Fails where there is no
-    /// answer at all.
-    pub fn ask(&mut self, asked: Asked, mut lent: Lent) -> Result<(), String> {
+    /// Makes one call of both.
+    pub fn ask(&mut self, asked: Asked, lent: Lent) -> Result<(), String> {
+        self.ask_all(&[asked], lent)
+    }
+
+    /// Makes these calls of both, by null pointers or not. Fails where there is
+    /// no answer at all.
+    pub fn ask_all(&mut self, asked: &[Asked], mut lent: Lent) -> Result<(), String> {
         lent.null = self.random.one_in(2);
-        let expected = self.own.call(asked, &lent)?;
+        let mut outcomes = self.desk.calls(asked, &lent).into_iter();
+        for asked in asked {
+            let outcome = outcomes.next().unwrap_or(Err("no answer".into()));
+            self.judge(*asked, &lent, outcome)?;
+        }
+        Ok(())
+    }
+
+    fn judge(&mut self, asked: Asked, lent: &Lent, outcome: Outcome) -> Result<(), String> {
+        let expected = self.own.call(asked, lent)?;
         self.ledger.count(expected.reply.number());
-        let outcome = self.desk.call(asked, &lent);
         let case = self.ledger.cases;
-        let told = |own: &mut Own| format!("case {case}, {}", told(own, asked, &lent));
+        let told = |own: &mut Own| format!("case {case}, {}", told(own, asked, lent));
         let called = outcome.map_err(|why| format!("{}: {why}", told(&mut self.own)))?;
         for what in differences(&called, &expected) {
             let own = &mut self.own;

@@ -50,6 +50,47 @@ impl Whole {
             (true, false) => (-&(&quotient + &Whole::from(1)), divisor - &left),
         }
     }
+
+    /// Self times 2^power.
+    pub fn times_two_to(&self, power: usize) -> Whole {
+        let mut digits = vec![0; power / 32];
+        let mut carry = 0u64;
+        for digit in &self.digits {
+            carry += u64::from(*digit) << (power % 32);
+            digits.push(carry as u32);
+            carry >>= 32;
+        }
+        digits.push(carry as u32);
+        Whole::new(self.negative, digits)
+    }
+
+    /// The greatest whole number not above self / 2^power: what `divided_by`
+    /// gives, without its long division.
+    fn over_two_to(&self, power: usize) -> Whole {
+        let kept = self.digits.get(power / 32..).unwrap_or(&[]);
+        let from = |i: usize| u64::from(kept.get(i).copied().unwrap_or(0));
+        let digits =
+            (0..kept.len()).map(|i| ((from(i + 1) << 32 | from(i)) >> (power % 32)) as u32);
+        let towards_zero = Whole::new(self.negative, digits.collect());
+        match self < &towards_zero.times_two_to(power) {
+            true => &towards_zero - &Whole::from(1),
+            false => towards_zero,
+        }
+    }
+
+    /// The whole number nearest to self / 2^power, an exact half to the greater.
+    pub fn nearest_over_two_to(&self, power: usize) -> Whole {
+        let one = Whole::from(1).times_two_to(power);
+        (&self.times_two_to(1) + &one).over_two_to(power + 1)
+    }
+
+    /// The same number, which the caller knows to have at most 96 bits.
+    pub fn to_i128(&self) -> i128 {
+        assert!(self.digits.len() <= 3, "at most 96 bits");
+        let digits = self.digits.iter().rev();
+        let magnitude = digits.fold(0, |sum, digit| sum << 32 | i128::from(*digit));
+        if self.negative { -magnitude } else { magnitude }
+    }
 }
 
 impl From<i128> for Whole {
@@ -67,9 +108,10 @@ fn compare_digits(a: &[u32], b: &[u32]) -> Ordering {
 }
 
 fn add_digits(a: &[u32], b: &[u32]) -> Vec<u32> {
+    let length = a.len().max(b.len()) + 1;
     let mut carry = 0u64;
-    let mut sum = Vec::new();
-    for i in 0..a.len().max(b.len()) + 1 {
+    let mut sum = Vec::with_capacity(length);
+    for i in 0..length {
         let digit = |list: &[u32]| u64::from(list.get(i).copied().unwrap_or(0));
         carry += digit(a) + digit(b);
         sum.push(carry as u32);
@@ -81,7 +123,7 @@ fn add_digits(a: &[u32], b: &[u32]) -> Vec<u32> {
 /// a - b, where a is not less than b.
 fn subtract_digits(a: &[u32], b: &[u32]) -> Vec<u32> {
     let mut borrow = 0i64;
-    let mut difference = Vec::new();
+    let mut difference = Vec::with_capacity(a.len());
     for (i, digit) in a.iter().enumerate() {
         let value = i64::from(*digit) - i64::from(b.get(i).copied().unwrap_or(0)) - borrow;
         borrow = i64::from(value < 0);
@@ -178,6 +220,7 @@ impl PartialOrd for Whole {
 #[cfg(test)]
 mod tests {
     use super::*;
+    use crate::exact::Fraction;
     use crate::generate::Random;
 
     /// Where everything fits i128, i128 is the judge.
@@ -220,6 +263,56 @@ mod tests {
             let (quotient, left) = a.divided_by(&divisor);
             assert_eq!(&(&quotient * &divisor) + &left, a);
             assert!(!left.is_negative() && left < divisor);
+        }
+    }
+
+    /// Powers of two by shifting, against the general rules.
+    #[test]
+    fn powers_of_two_agree_with_products_and_quotients() {
+        let mut random = Random::new(5);
+        let two = Whole::from(2);
+        for power in (0..200).chain([1023, 1024, 1074, 1075]) {
+            let powered = two.power(power as u32);
+            let (a, b) = (random.wide(), random.wide() >> random.between(0, 126));
+            let large = &(&Whole::from(a) * &powered) + &Whole::from(b);
+            assert_eq!(large.times_two_to(power), &large * &powered);
+            for value in [Whole::from(b), large] {
+                assert_eq!(value.over_two_to(power), value.divided_by(&powered).0);
+                let fraction = Fraction::new(value.clone(), powered.clone());
+                assert_eq!(value.nearest_over_two_to(power), fraction.nearest());
+            }
+        }
+    }
+
+    #[test]
+    fn halves_over_a_power_of_two_go_to_the_greater() {
+        for (value, power, expected) in [
+            (5, 1, 3),
+            (-5, 1, -2),
+            (4, 3, 1),
+            (-4, 3, 0),
+            (-5, 3, -1),
+            (-12, 3, -1),
+            (7, 0, 7),
+            (0, 9, 0),
+            (3, 200, 0),
+        ] {
+            let nearest = Whole::from(value).nearest_over_two_to(power);
+            assert_eq!(nearest.to_i128(), expected, "{value} over 2^{power}");
+        }
+        // The last of many digits decides.
+        let half = Whole::from(-3).times_two_to(1073);
+        assert_eq!(half.nearest_over_two_to(1074).to_i128(), -1);
+        let below = &half - &Whole::from(1);
+        assert_eq!(below.nearest_over_two_to(1074).to_i128(), -2);
+    }
+
+    #[test]
+    fn small_ones_come_back_as_i128() {
+        let mut random = Random::new(6);
+        for _ in 0..2_000 {
+            let value = random.wide() >> random.between(32, 127);
+            assert_eq!(Whole::from(value).to_i128(), value);
         }
     }
 

@@ -4,7 +4,7 @@
 use super::{
     Random, date_pairs, edge_days, edge_seconds, edge_ticks, random_tick, seconds_past_j2000,
 };
-use crate::dates::{DAY, GREATEST_DAYS, GREATEST_SECONDS, J2000, ORIGIN, SECOND, ticks_of_double};
+use crate::dates::{DAY, GREATEST_DAYS, GREATEST_SECONDS, J2000, ORIGIN, SECOND, nearest_tick};
 use crate::scales::GREATEST_EPOCH;
 
 /// A double by its bits. Bits at random are seldom NaN, subnormal or of a
@@ -32,7 +32,7 @@ fn near_end(random: &mut Random) -> i128 {
 /// Two parts that together are near the tick: the second is what the first
 /// leaves. A first part far away puts both outside the range, though not their
 /// sum; only one within some days leaves a part fine enough for every tick.
-fn parts_near(random: &mut Random, tick: i128) -> (f64, f64) {
+pub(super) fn parts_near(random: &mut Random, tick: i128) -> (f64, f64) {
     let days = (tick + ORIGIN) as f64 / DAY as f64;
     // The second part then keeps its limit, too.
     let least = (days - GREATEST_DAYS) as i64 + 1;
@@ -43,7 +43,7 @@ fn parts_near(random: &mut Random, tick: i128) -> (f64, f64) {
         2 => whole + random.between(0, 1 << 30) as f64 / (1 << 30) as f64,
         _ => days.round() + random.between(-2, 2) as f64 / 2.0,
     };
-    let left = tick + ORIGIN - ticks_of_double(first, DAY);
+    let left = tick + ORIGIN - nearest_tick(&[first], DAY);
     let second = left as f64 / DAY as f64;
     random.pick(&[(first, second), (second, first)])
 }
@@ -80,7 +80,7 @@ pub fn read_dates(random: &mut Random, how_many: usize) -> Vec<(f64, f64)> {
 }
 
 /// So many doubles away from the one given, in the order of their values.
-fn doubles_from(value: f64, many: i64) -> f64 {
+pub(super) fn doubles_from(value: f64, many: i64) -> f64 {
     f64::from_bits(value.to_bits().wrapping_add_signed(many))
 }
 

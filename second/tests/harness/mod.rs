@@ -11,6 +11,7 @@ pub static STAGE: LazyLock<Stage> = LazyLock::new(|| {
     let size = Size {
         tables: 64,
         conversions: 40,
+        splits: 10_000,
     };
     Stage::new(7, size)
 });

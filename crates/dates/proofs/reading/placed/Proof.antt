@@ -2,7 +2,7 @@
 -- Assumes nothing.
 use borrow.Author.Needs.{needs}
 use mathlib.Core.Path.{_≡_, sym, ap, _∙_}
-use Prim.Native.Nat.{_≤_}
+use Prim.Native.Nat.{_^_, _≤_}
 use native.Mathlib.Omega.{arith}
 use lib.Dec.{lit<}
 use lib.IntN.{ℤ, pos, negℤ, natAbs, _+ℤ_, _-ℤ_, _*ℤ_, +ℤ-idl, *ℤ-comm}
@@ -20,7 +20,7 @@ module _ (s : tie.Start) where
   units = s .args .span .units
 
   abbrev ticks : ℤ
-  ticks = s .args .span .ticks
+  ticks = s .args .span .rest
 
   abbrev per : ℤ
   per = s .args .per
@@ -29,10 +29,10 @@ module _ (s : tie.Start) where
   most = s .args .most
 
   units-are : read units ≡ units
-  units-are = read-is units (fits-small units 10000000000000000 (s .pre .0 .units) (lit< tt))
+  units-are = read-is units (fits-small units (2 ^ 61) (s .pre .0 .units) (lit< tt))
 
   ticks-are : read ticks ≡ ticks
-  ticks-are = read-is ticks (fits-small ticks 10000000000000000 (s .pre .0 .ticks) (lit< tt))
+  ticks-are = read-is ticks (fits-small ticks 10000000000000000 (s .pre .0 .rest) (lit< tt))
 
   per-is : read per ≡ per
   per-is = read-is per (s .fits .per)
@@ -56,7 +56,7 @@ module _ (s : tie.Start) where
     product-is = read-is (read units *ℤ read per) product-fits ∙ rw (units-are, per-is)
 
     sum-fits : SFits w64 (read (read units *ℤ read per) +ℤ read ticks)
-    sum-fits = rw (product-is, ticks-are) (fits-small (units *ℤ per +ℤ ticks) 8650000000000000000 (size-+ (units *ℤ per) ticks l (s .pre .0 .ticks)) (lit< tt))
+    sum-fits = rw (product-is, ticks-are) (fits-small (units *ℤ per +ℤ ticks) 8650000000000000000 (size-+ (units *ℤ per) ticks l (s .pre .0 .rest)) (lit< tt))
 
     sum-is : read (read (read units *ℤ read per) +ℤ read ticks) ≡ per *ℤ units +ℤ ticks
     sum-is = read-is (read (read units *ℤ read per) +ℤ read ticks) sum-fits ∙ rw (product-is, ticks-are, *ℤ-comm units per)

@@ -1,5 +1,4 @@
--- `dates::span::plus` meets its contract: numbers up to 10^16, and their sums, fit. Assumes
--- nothing.
+-- `dates::span::plus` meets its contract: numbers up to 2^61, and their sums, fit. Assumes nothing.
 use mathlib.Core.Path.{_≡_, _∙_}
 use Prim.Native.Nat.{_≤_}
 use native.Mathlib.Omega.{arith}
@@ -12,8 +11,8 @@ use Rattle.numbers.proofs.Machine.{fits}
 use Rattle.dates.proofs.span.plus.Statement.{statement}
 use Rattle.dates.proofs.span.plus.Tie as tie
 
-module _ (x y : ℤ) (h : natAbs x ≤ 10000000000000000) (k : natAbs y ≤ 10000000000000000) where
-  back : (z : ℤ) → natAbs z ≤ 10000000000000000 → toZ w64 (ofZ w64 z) ≡ z
+module _ (x y : ℤ) (h : natAbs x ≤ 2305843009213693952) (k : natAbs y ≤ 2305843009213693952) where
+  back : (z : ℤ) → natAbs z ≤ 2305843009213693952 → toZ w64 (ofZ w64 z) ≡ z
   back z l = toZ-ofZ w64 z (fits z (omega arith))
 
   added : SFits w64 (toZ w64 (ofZ w64 x) +ℤ toZ w64 (ofZ w64 y))
@@ -28,14 +27,14 @@ add-t3 c = let s = c .before .before .before .before in added (s .args .a .units
 add-t4 : tie.Need-add-t4
 add-t4 c =
     let s = c .before .before .before .before .before .before .before .before in
-    added (s .args .a .ticks) (s .args .b .ticks) (s .pre .0 .ticks) (s .pre .1 .ticks)
+    added (s .args .a .rest) (s .args .b .rest) (s .pre .0 .rest) (s .pre .1 .rest)
 
 returns : tie.Need-returns
 returns c =
     let s = c .before .before .before .before .before .before .before .before in
     record {
       unitsAre = sum-is (s .args .a .units) (s .args .b .units) (s .pre .0 .units) (s .pre .1 .units);
-      ticksAre = sum-is (s .args .a .ticks) (s .args .b .ticks) (s .pre .0 .ticks) (s .pre .1 .ticks);
+      restIs = sum-is (s .args .a .rest) (s .args .b .rest) (s .pre .0 .rest) (s .pre .1 .rest);
     }
 
 pub plus-spec : {M : Type 1} → statement M
