@@ -1,5 +1,6 @@
 /* A host in C: it judges a table, converts, splits a date two ways, runs a batch, reads and writes
-   UTC and shows three refusals. Its arguments are the table's file and that of the leap seconds. */
+   UTC, compares the table with the next season's and shows four refusals. Its arguments are the
+   table's file, that of the leap seconds and that of the next season's table. */
 #include "../include/colliedash.h"
 
 #include <inttypes.h>
@@ -10,6 +11,10 @@ enum { GPS = 1, TAI, TT, TCG, TDB, TCB, UTC };
 /* The largest table has 121 blocks of 512 bytes. One byte more, so that a longer file is refused
    and not cut. */
 static uint8_t table[121 * 512 + 1];
+static uint8_t season[121 * 512 + 1];
+
+/* The most granules that a table has, three numbers an entry. */
+static int64_t entries[3 * 360];
 
 /* The longest list has 64 pairs. */
 static int64_t leaps[2 * 64 + 1];
@@ -28,17 +33,28 @@ static void refused(const char *what, colliedash_answer answer) {
            answer.place, answer.index);
 }
 
+/* Each granule that differs, its differences in units of 1/65536 tick and in ticks. */
+static void show_changes(const int64_t *list, uint64_t count) {
+    printf("%7s%9s%6s%18s%14s\n", "granule", "largest", "sum", "largest in ticks", "sum in ticks");
+    for (const int64_t *entry = list; entry < list + 3 * count; entry += 3)
+        printf("%7" PRId64 "%9" PRId64 "%6" PRId64 "%18.6f%14.6f\n", entry[0], entry[1], entry[2],
+               entry[1] / 65536.0, entry[2] / 65536.0);
+}
+
 int main(int argc, char **argv) {
-    FILE *blocks = argc == 3 ? fopen(argv[1], "rb") : NULL;
-    FILE *pairs = argc == 3 ? fopen(argv[2], "r") : NULL;
-    if (!blocks || !pairs) {
-        fprintf(stderr, "usage: host TABLE LEAPS\n");
+    FILE *blocks = argc == 4 ? fopen(argv[1], "rb") : NULL;
+    FILE *pairs = argc == 4 ? fopen(argv[2], "r") : NULL;
+    FILE *fresh = argc == 4 ? fopen(argv[3], "rb") : NULL;
+    if (!blocks || !pairs || !fresh) {
+        fprintf(stderr, "usage: host TABLE LEAPS SEASON\n");
         return 2;
     }
     size_t size = fread(table, 1, sizeof table, blocks);
     fclose(blocks);
     size_t count = read_leaps(pairs);
     fclose(pairs);
+    size_t season_size = fread(season, 1, sizeof season, fresh);
+    fclose(fresh);
 
     colliedash_table judged = colliedash_judge(table, size);
     printf("table: number %" PRIu32 ", %" PRIu32 " granules of %" PRId64 " ticks, degree %" PRIu32
@@ -91,5 +107,18 @@ int main(int argc, char **argv) {
     answers[0] = -1;
     refused("batch", colliedash_batch(GPS, TCB, buzzes, 3, answers, 3, table, size));
     printf("its first answer is still %" PRId64 "\n", answers[0]);
+
+    /* What changed from this season's table to the next? */
+    size_t room = sizeof entries / sizeof *entries;
+    colliedash_changes changes =
+        colliedash_compare_tables(table, size, season, season_size, entries, room);
+    printf("next season: %" PRIu64 " of %" PRIu32 " granules differ\n", changes.entries,
+           judged.count);
+    show_changes(entries, changes.entries);
+
+    /* Room for two entries where there are three, and nothing is written. */
+    changes = colliedash_compare_tables(table, size, season, season_size, entries, 6);
+    printf("into a list of 6 numbers: refused %" PRIu32 ", place %" PRIu64 ", table %" PRIu32 "\n",
+           changes.number, changes.place, changes.which);
     return 0;
 }

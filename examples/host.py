@@ -1,7 +1,8 @@
 """A host in Python: it judges a table, converts, splits a date two ways, runs a batch, reads and
-writes UTC, and shows three refusals.
+writes UTC, compares the table with the next season's, and shows four refusals.
 
-Its arguments are the library as a shared object, the table's file and that of the leap seconds.
+Its arguments are the library as a shared object, the table's file, that of the leap seconds and
+that of the next season's table.
 """
 
 import sys
@@ -51,12 +52,22 @@ class Table(Structure):
     ]
 
 
+class Changes(Structure):
+    _fields_ = [
+        ("number", c_uint32),
+        ("which", c_uint32),
+        ("place", c_uint64),
+        ("entries", c_uint64),
+    ]
+
+
 # As include/colliedash.h declares them: a slice is a pointer and its length.
 desk = CDLL(sys.argv[1])
 BYTES = [c_char_p, c_size_t]
 TICKS = [POINTER(c_int64), c_size_t]
 for name, answer, arguments in [
     ("judge", Table, BYTES),
+    ("compare_tables", Changes, BYTES + BYTES + TICKS),
     ("write_date", Date, [c_int64]),
     ("convert_ticks", Answer, [c_uint32, c_uint32, c_int64] + BYTES),
     ("convert_date", Answer, [c_uint32, c_uint32, c_double, c_double] + BYTES),
@@ -80,6 +91,9 @@ lent = (table, len(table))
 with open(sys.argv[3]) as file:
     numbers = [int(number) for line in list(file)[1:] for number in line.split()]
 leaps = ((c_int64 * len(numbers))(*numbers), len(numbers))
+
+with open(sys.argv[4], "rb") as file:
+    season = file.read()
 
 judged = desk.colliedash_judge(*lent)
 print(
@@ -129,3 +143,21 @@ buzzes[2] = 2**63 - 1
 answers[0] = -1
 refused("batch", desk.colliedash_batch(GPS, TCB, buzzes, 3, answers, 3, *lent))
 print(f"its first answer is still {answers[0]}")
+
+# What changed from this season's table to the next? A table has 360 granules at most.
+entries = (c_int64 * (3 * 360))()
+both = (*lent, season, len(season))
+changes = desk.colliedash_compare_tables(*both, entries, len(entries))
+print(f"next season: {changes.entries} of {judged.count} granules differ")
+titles = ("granule", "largest", "sum", "largest in ticks", "sum in ticks")
+print("{:>7}{:>9}{:>6}{:>18}{:>14}".format(*titles))
+for i in range(changes.entries):
+    granule, largest, total = entries[3 * i : 3 * i + 3]
+    print(f"{granule:7}{largest:9}{total:6}{largest / 65536:18.6f}{total / 65536:14.6f}")
+
+# Room for two entries where there are three, and nothing is written.
+changes = desk.colliedash_compare_tables(*both, entries, 6)
+print(
+    f"into a list of 6 numbers: refused {changes.number}, place {changes.place}, "
+    f"table {changes.which}"
+)

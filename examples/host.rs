@@ -1,6 +1,6 @@
 //! A host in Rust: it judges a table, converts, splits a date two ways, runs a batch, reads and
-//! writes UTC and shows three refusals. Its arguments are the table's file and that of the leap
-//! seconds.
+//! writes UTC, compares the table with the next season's and shows four refusals. Its arguments are
+//! the table's file, that of the leap seconds and that of the next season's table.
 
 use std::ptr::null;
 
@@ -46,11 +46,27 @@ struct Table {
     length: i64,
 }
 
+#[repr(C)]
+struct Changes {
+    number: u32,
+    which: u32,
+    place: u64,
+    entries: u64,
+}
+
 // As include/colliedash.h declares them. A length is that of the slice whose pointer stands before
 // it.
 #[link(name = "hosts", kind = "static")]
 unsafe extern "C" {
     fn colliedash_judge(table: *const u8, table_len: usize) -> Table;
+    fn colliedash_compare_tables(
+        first: *const u8,
+        first_len: usize,
+        second: *const u8,
+        second_len: usize,
+        entries: *mut i64,
+        entries_len: usize,
+    ) -> Changes;
     safe fn colliedash_write_date(tick: i64) -> Date;
     fn colliedash_convert_ticks(
         from: u32,
@@ -140,6 +156,42 @@ fn utc_of(tick: i64, leaps: &[i64]) -> Utc {
     unsafe { colliedash_write_utc(TT, UTC, tick, leaps.as_ptr(), leaps.len(), null(), 0) }
 }
 
+/// What changed between two tables: the entries, three numbers each, or the refusal.
+fn compare<'a>(first: &[u8], second: &[u8], list: &'a mut [i64]) -> Result<&'a [i64], Changes> {
+    let changes = unsafe {
+        colliedash_compare_tables(
+            first.as_ptr(),
+            first.len(),
+            second.as_ptr(),
+            second.len(),
+            list.as_mut_ptr(),
+            list.len(),
+        )
+    };
+    if changes.number == 0 {
+        Ok(&list[..3 * changes.entries as usize])
+    } else {
+        Err(changes)
+    }
+}
+
+/// Each granule that differs, its differences in units of 1/65536 tick and in ticks.
+fn show_changes(entries: &[i64]) {
+    println!(
+        "{:>7}{:>9}{:>6}{:>18}{:>14}",
+        "granule", "largest", "sum", "largest in ticks", "sum in ticks"
+    );
+    let ticks = |units: i64| units as f64 / 65536.0;
+    for entry in entries.chunks_exact(3) {
+        let (granule, largest, sum) = (entry[0], entry[1], entry[2]);
+        println!(
+            "{granule:>7}{largest:>9}{sum:>6}{:>18.6}{:>14.6}",
+            ticks(largest),
+            ticks(sum)
+        );
+    }
+}
+
 /// A comment's line, then a pair a line.
 fn pairs(text: &str) -> Vec<i64> {
     let numbers = text.lines().skip(1).flat_map(str::split_whitespace);
@@ -160,9 +212,10 @@ fn refused(what: &str, answer: Answer) {
 
 fn main() {
     let mut paths = std::env::args().skip(1);
-    let mut path = || paths.next().expect("usage: host TABLE LEAPS");
+    let mut path = || paths.next().expect("usage: host TABLE LEAPS SEASON");
     let table = std::fs::read(path()).expect("a table's file");
     let leaps = pairs(&std::fs::read_to_string(path()).expect("a file of leap seconds"));
+    let season = std::fs::read(path()).expect("the next season's table");
 
     let judged = unsafe { colliedash_judge(table.as_ptr(), table.len()) };
     println!(
@@ -233,5 +286,24 @@ fn main() {
     if let Err(answer) = batch(GPS, TCB, &buzzes, &mut answers, &table) {
         refused("batch", answer);
         println!("its first answer is still {}", answers[0]);
+    }
+
+    // What changed from this season's table to the next?
+    let mut list = [0; 3 * 360];
+    if let Ok(entries) = compare(&table, &season, &mut list) {
+        let (some, all) = (entries.len() / 3, judged.count);
+        println!("next season: {some} of {all} granules differ");
+        show_changes(entries);
+    }
+
+    // Room for two entries where there are three, and nothing is written.
+    if let Err(changes) = compare(&table, &season, &mut list[..6]) {
+        let Changes {
+            number,
+            place,
+            which,
+            ..
+        } = changes;
+        println!("into a list of 6 numbers: refused {number}, place {place}, table {which}");
     }
 }

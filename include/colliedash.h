@@ -32,6 +32,7 @@
    14      a coefficient lies beyond 2^40 either way                       lowest granule
    15      a weight lies above 2^40 or above H                             lowest granule
    16      two granules meet with more than 1024 units between them        the later granule
+   20      two tables that are compared differ in S, H or G                0
 
    They are told in the order 1 (from, then to), 8, 7, 10 to 16, 2, 3, 5 of a reading, 4 at the
    start, then step by step, 6 before 4, and last 5 of a tick to be written. A conversion that does
@@ -88,6 +89,15 @@ typedef struct {
     int64_t ticks;
 } colliedash_utc;
 
+/* What changed between two tables: how many granules differ. `which` is the table that was refused,
+   0 the first and 1 the second; else 0. */
+typedef struct {
+    uint32_t number;
+    uint32_t which;
+    uint64_t place;
+    uint64_t entries;
+} colliedash_changes;
+
 /* The numbers of the table that the bytes hold, or the refusal of 10 to 16 that they get. */
 colliedash_table colliedash_judge(const uint8_t *table, size_t table_len);
 
@@ -102,6 +112,18 @@ colliedash_answer colliedash_write_table(int64_t start, int64_t length, uint32_t
                                          uint32_t degree, const int64_t *coefficients,
                                          size_t coefficients_len, uint8_t *image,
                                          size_t image_len);
+
+/* Lists each granule that differs between two tables of equal S, H and G, in rising order, at the
+   front of the list, and answers how many they are; the rest of the list stays. An entry is three
+   numbers: the granule, the largest absolute difference of its coefficients, and the sum of their
+   absolute differences, in units of 1/65536 tick, a missing coefficient counting as zero. That sum
+   bounds how far TT - TDB of the one table is from that of the other, by the exact Chebyshev sums,
+   anywhere in the granule. The list is empty exactly where all granules mean the same. The first
+   table is judged by 10 to 16, then the second; then 20; then 8, exactly where the list is shorter
+   than three numbers an entry. */
+colliedash_changes colliedash_compare_tables(const uint8_t *first, size_t first_len,
+                                             const uint8_t *second, size_t second_len,
+                                             int64_t *entries, size_t entries_len);
 
 /* A tick as a date: first is the last Julian date ending in .5 not after it, exact; second the part
    of a day since then, from 0 to below 1. Or refusal 4. */

@@ -40,8 +40,17 @@ pub struct Table {
     pub length: i64,
 }
 
+#[repr(C)]
+#[derive(Clone, Copy, Debug, PartialEq)]
+pub struct Changes {
+    pub number: u32,
+    pub which: u32,
+    pub place: u64,
+    pub entries: u64,
+}
+
 mod archive {
-    use super::{Answer, Date, Table, Utc};
+    use super::{Answer, Changes, Date, Table, Utc};
 
     unsafe extern "C" {
         pub fn colliedash_judge(table: *const u8, table_len: usize) -> Table;
@@ -93,6 +102,14 @@ mod archive {
             table: *const u8,
             table_len: usize,
         ) -> Answer;
+        pub fn colliedash_compare_tables(
+            first: *const u8,
+            first_len: usize,
+            second: *const u8,
+            second_len: usize,
+            entries: *mut i64,
+            entries_len: usize,
+        ) -> Changes;
     }
 }
 
@@ -154,6 +171,19 @@ pub fn batch(from: u32, to: u32, ticks: &[i64], answers: &mut [i64], table: &[u8
             answers.len(),
             table.as_ptr(),
             table.len(),
+        )
+    }
+}
+
+pub fn compare_tables(first: &[u8], second: &[u8], entries: &mut [i64]) -> Changes {
+    unsafe {
+        archive::colliedash_compare_tables(
+            first.as_ptr(),
+            first.len(),
+            second.as_ptr(),
+            second.len(),
+            entries.as_mut_ptr(),
+            entries.len(),
         )
     }
 }

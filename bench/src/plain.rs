@@ -2,6 +2,7 @@
 //! in 128 bits, a table decoded once, no proofs, no tricks.
 
 pub mod batch;
+pub mod changes;
 pub mod convert;
 pub mod dates;
 pub mod judge;

@@ -1,6 +1,7 @@
 //! The rows that are printed: a case each, or the growth of one.
 
 pub mod batches;
+pub mod changes;
 pub mod dates;
 pub mod lines;
 pub mod tables;

@@ -9,20 +9,23 @@ Every number is 8 bytes, little-endian: a narrower one is widened with zeros, a
 signed one is its two's complement, a double is its bits.
 
 A request:
-    function            0: none, the bridge alone answers; 1 to 10: as listed below
+    function            0: none, the bridge alone answers; 1 to 11: as listed below
     numbers[4]          the call's plain arguments, in their order; then zeros
     table kind, length  the table; a length counts bytes
+    second kind, length the second table, where two are compared
     list kind, length   the list lent to read
     written kind, length  the buffer lent to be written
-    bytes               of those of the three that are GIVEN, in this order
+    bytes               of those of the four that are GIVEN, in this order
 A kind: 0 a null pointer (its length is 0); 1 GIVEN, the bytes follow; 2 SAME,
 the bytes that this place was GIVEN last (large tables are asked about often).
+Each place has memory of its own, also where two tables are the same.
 
 An answer:
     request             how many requests were read so far, this one included
-    seen                what the call did beside its answer: bit 0, changed the
-                        table; bit 1, changed the list; bits 2, 3, 4, wrote
-                        right before or behind the table, the list, the buffer
+    seen                what the call did beside its answer: bits 0, 1, 2, changed
+                        the table, the second table, the list; bits 3, 4, 5, 6,
+                        wrote right before or behind the table, the second
+                        table, the list, the buffer
     numbers[6]          the fields of the answer, in their order; then zeros
     bytes               of the buffer lent to be written, as they are now
 */
@@ -46,6 +49,7 @@ typedef struct { u32 number; u32 steps; u64 place; u64 index; i64 tick; } answer
 typedef struct { u32 number; u64 place; double first; double second; } date;
 typedef struct { u32 number; u32 count; u32 degree; u64 place; i64 start; i64 length; } table;
 typedef struct { u32 number; u32 steps; u64 place; i64 day; i64 ticks; } utc;
+typedef struct { u32 number; u32 which; u64 place; u64 entries; } changes;
 
 /* All of them: an archive that lacks one makes no bridge. */
 table colliedash_judge(const u8 *, u64);
@@ -58,11 +62,12 @@ answer colliedash_convert_j2000(u32, u32, double, const u8 *, u64);
 answer colliedash_batch(u32, u32, const i64 *, u64, i64 *, u64, const u8 *, u64);
 answer colliedash_convert_utc(u32, u32, i64, i64, const i64 *, u64, const u8 *, u64);
 utc colliedash_write_utc(u32, u32, i64, const i64 *, u64, const u8 *, u64);
+changes colliedash_compare_tables(const u8 *, u64, const u8 *, u64, i64 *, u64);
 
 enum { NONE, JUDGE, READ_TABLE, WRITE_TABLE, WRITE_DATE, TICKS, DATE, J2000, BATCH, CONVERT_UTC,
-       WRITE_UTC, FUNCTIONS };
+       WRITE_UTC, COMPARE_TABLES, FUNCTIONS };
 enum { NOTHING, GIVEN, SAME };
-enum { TABLE, LIST, WRITTEN, PLACES };
+enum { TABLE, SECOND_TABLE, LIST, WRITTEN, PLACES };
 /* As long as a block of a table: who writes one block too many is seen. */
 enum { GUARD = 512 };
 
@@ -154,7 +159,7 @@ static void lend(struct loan *loan, const u64 asked[2])
     loan->length = length;
 }
 
-/* What the call did to the three; a table and its guards are then as before. */
+/* What the call did to the four; a table and its guards are then as before. */
 static u64 look(void)
 {
     u64 seen = 0;
@@ -162,7 +167,7 @@ static u64 look(void)
         struct loan *loan = &loans[place];
         if (!loan->lent) continue;
         if (memcmp(loan->whole, guard, GUARD) || memcmp(loan->lent + loan->length, guard, GUARD)) {
-            seen |= 4ul << place;
+            seen |= 1ul << (WRITTEN + place);
             lay_guards(loan);
         }
         if (place != WRITTEN && memcmp(loan->lent, loan->kept, loan->length)) {
@@ -223,6 +228,14 @@ static void note_utc(u64 *to, utc got)
     to[4] = (u64)got.ticks;
 }
 
+static void note_changes(u64 *to, changes got)
+{
+    to[0] = got.number;
+    to[1] = got.which;
+    to[2] = got.place;
+    to[3] = got.entries;
+}
+
 /* The functions that are lent a list, or a buffer to be written. */
 static void call_with_lists(u64 function, const u64 *n, u64 *to)
 {
@@ -249,6 +262,10 @@ static void call_with_lists(u64 function, const u64 *n, u64 *to)
     case WRITE_UTC:
         note_utc(to, colliedash_write_utc((u32)n[0], (u32)n[1], (i64)n[2], list, many,
                                           bytes, size));
+        break;
+    case COMPARE_TABLES:
+        note_changes(to, colliedash_compare_tables(bytes, size, loans[SECOND_TABLE].lent,
+                                                   loans[SECOND_TABLE].length, into, room));
     }
 }
 
@@ -279,6 +296,7 @@ static void call(u64 function, const u64 *n, u64 *to)
     if (function >= FUNCTIONS) stop("the bridge: a function that is not there\n");
     switch (function) {
     case READ_TABLE: case WRITE_TABLE: case BATCH: case CONVERT_UTC: case WRITE_UTC:
+    case COMPARE_TABLES:
         call_with_lists(function, n, to);
         break;
     default: call_plain(function, n, to);

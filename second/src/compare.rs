@@ -3,6 +3,7 @@
 
 mod batches;
 mod buffers;
+mod changes;
 mod conversions;
 mod interface;
 mod ledger;
@@ -17,7 +18,7 @@ mod written_dates;
 
 pub use buffers::{blank, bytes_of_ticks};
 pub use interface::{
-    Answer, Asked, Called, Date, Desk, Lent, Outcome, Reply, TableAnswer, UtcAnswer,
+    Answer, Asked, Called, ChangesAnswer, Date, Desk, Lent, Outcome, Reply, TableAnswer, UtcAnswer,
 };
 pub use ledger::Ledger;
 pub use own::Own;
@@ -45,7 +46,7 @@ impl Comparison {
 }
 
 /// Every comparison there is.
-pub const COMPARISONS: [Comparison; 17] = [
+pub const COMPARISONS: [Comparison; 18] = [
     Comparison {
         name: "colliedash_judge",
         run: tables::judge,
@@ -57,6 +58,10 @@ pub const COMPARISONS: [Comparison; 17] = [
     Comparison {
         name: "colliedash_write_table",
         run: tables::write_table,
+    },
+    Comparison {
+        name: "colliedash_compare_tables",
+        run: changes::compare_tables,
     },
     Comparison {
         name: "colliedash_write_date",

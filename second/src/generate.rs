@@ -3,6 +3,7 @@
 
 mod broken;
 mod doubles;
+mod fresh;
 mod leaps;
 mod lines;
 mod random;
@@ -14,6 +15,7 @@ mod utc;
 
 pub use broken::{Broken, broken_tables, doubly_broken_table};
 pub use doubles::{date_pairs, edge_days, edge_seconds, seconds_past_j2000};
+pub use fresh::{extended, fresh_tables, moved_tables, widest_tables};
 pub use leaps::{BrokenLeaps, REAL_LEAPS, accepted_leaps, broken_leaps};
 pub use lines::{hostile_line, input, plain_line};
 pub use random::Random;

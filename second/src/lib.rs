@@ -3,6 +3,7 @@
 
 pub mod blocks;
 pub mod bridge;
+pub mod changes;
 pub mod compare;
 pub mod dates;
 pub mod desk;

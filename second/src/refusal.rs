@@ -40,6 +40,8 @@ pub const COEFFICIENT: u32 = 14;
 pub const WEIGHT: u32 = 15;
 /// At a join, the sums differ by over 1024 units; the later granule.
 pub const JOIN: u32 = 16;
+/// Two tables to be compared "where S, H or G differ"; 0.
+pub const TABLES_APART: u32 = 20;
 
 impl Refusal {
     pub fn new(number: u32, place: u64) -> Refusal {

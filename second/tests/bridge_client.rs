@@ -56,10 +56,11 @@ fn is_told(fault: &str, what: &str, in_functions: &[&str]) {
     }
 }
 
-const EVERY: [&str; 10] = [
+const EVERY: [&str; 11] = [
     "judge",
     "read_table",
     "write_table",
+    "compare_tables",
     "write_date",
     "convert_ticks",
     "convert_date",
@@ -118,9 +119,14 @@ fn a_bridge_that_breaks_down_among_many_calls_tells_at_which() {
 fn what_the_bridge_sees_beside_an_answer_is_told() {
     is_told("wrong", "got", &EVERY);
     is_told("changes-table", "the table's bytes were changed", &EVERY);
+    is_told(
+        "changes-second-table",
+        "the second table's bytes were changed",
+        &EVERY,
+    );
     is_told("changes-list", "the list lent to read was changed", &EVERY);
     is_told("writes-beside", "bytes beside the lent buffer", &EVERY);
-    let written = ["read_table", "write_table", "batch"];
+    let written = ["read_table", "write_table", "compare_tables", "batch"];
     is_told("wrong-byte", "should be", &written);
 }
 

@@ -212,10 +212,9 @@ fn many_calls_are_answered_in_their_order() {
 fn batches_arrive_as_they_were_asked() {
     let mut bridge = started(LIMIT);
     let lent = Lent {
-        table: &[1, 2, 3],
         list: &[4, -5],
         buffer: bytes_of_ticks(&[0; 3]),
-        null: false,
+        ..Lent::table(&[1, 2, 3])
     };
     let (from, to) = (3, u32::MAX);
     let called = clean(bridge.call(Asked::Batch { from, to }, &lent));

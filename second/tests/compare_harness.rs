@@ -19,10 +19,14 @@ const UTC: [u32; 14] = [0, 1, 4, 5, 6, 7, 8, 10, 11, 12, 13, 14, 15, 16];
 const UTC_ALONE: [u32; 5] = [0, 4, 5, 7, 8];
 
 /// Every number that each function can give to what it is asked.
-const NUMBERS: [(&str, &[u32]); 17] = [
+const NUMBERS: [(&str, &[u32]); 18] = [
     ("colliedash_judge", &[0, 10, 11, 12, 13, 14, 15, 16]),
     ("colliedash_read_table", &[0, 8, 10, 11, 12, 13, 14, 15, 16]),
     ("colliedash_write_table", &[0, 8, 13, 14, 15, 16]),
+    (
+        "colliedash_compare_tables",
+        &[0, 8, 10, 11, 12, 13, 14, 15, 16, 20],
+    ),
     ("colliedash_write_date", &[0, 4]),
     ("colliedash_convert_ticks", &CONVERSIONS),
     ("colliedash_convert_ticks, TT to TDB", &STEPS),

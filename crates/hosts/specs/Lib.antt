@@ -3,3 +3,4 @@ pub mod Tables
 pub mod Dates
 pub mod Conversions
 pub mod Utc
+pub mod Changes

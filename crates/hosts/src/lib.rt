@@ -2,6 +2,7 @@
 // the layers below. An answer is a struct by value, so that no answer slot is lent, and there is no
 // `requires`. `include/colliedash.h` declares the same.
 mod answers;
+pub mod changes;
 pub mod conversions;
 pub mod date;
 pub mod leaps;

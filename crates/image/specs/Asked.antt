@@ -36,6 +36,11 @@ pub record Stored (b : List ℕ) (g : ℕ) : Type 0 where
   pub few : g < mostGranules
   pub long : (1 + g / 3) * 512 + 512 ≤ length b
 
+-- and one of them
+pub record StoredAt (b : List ℕ) (g m : ℕ) : Type 0 where
+  pub granule : Stored b g
+  pub which : m < 16
+
 -- blocks enough for the granules, and a list of their size
 pub record Taking (b : List ℕ) (G n : ℕ) (d : List ℤ) : Type 0 where
   pub bounds : Few G n

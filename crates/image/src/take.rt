@@ -1,8 +1,19 @@
 // The coefficients that bytes hold.
 use words::number_at;
 ghost use mathlib.Core.Path.{_≡_};
-ghost use Rattle.image.specs.Image.{storedOf, coefficientsStored};
-ghost use Rattle.image.specs.Asked.{Stored, Taking};
+ghost use Rattle.image.specs.Image.{coefficientAt, storedOf, coefficientsStored};
+ghost use Rattle.image.specs.Asked.{Stored, StoredAt, Taking};
+
+// Coefficient m of a granule: 'from byte 8, 128 bytes a granule, sixteen 8-byte coefficients'.
+pub fn coefficient(bytes: &[u8], granule: usize, m: usize) -> i64
+    requires { ⌜ StoredAt (now bytes) granule m ⌝ }
+    ensures { λ r. ⌜ r ≡ coefficientAt (now (bytes .entry)) granule m ⌝ }
+{
+    number_at(
+        bytes,
+        (1 + granule / 3) * 512 + (8 + 128 * (granule % 3) + 8 * m),
+    )
+}
 
 // The sixteen coefficients stored for a granule.
 pub fn stored(bytes: &[u8], granule: usize) -> [i64; 16]
@@ -11,10 +22,7 @@ pub fn stored(bytes: &[u8], granule: usize) -> [i64; 16]
 {
     let mut coefficients = [0i64; 16];
     for m in 0..16 {
-        let c = number_at(
-            bytes,
-            (1 + granule / 3) * 512 + (8 + 128 * (granule % 3) + 8 * m),
-        );
+        let c = coefficient(bytes, granule, m);
         coefficients[m] = c;
     }
     coefficients
@@ -30,7 +38,7 @@ pub fn take_coefficients(bytes: &[u8], count: usize, degree: usize, coefficients
     while i < coefficients.len() {
         let g = i / (degree + 1);
         let m = i % (degree + 1);
-        let c = number_at(bytes, (1 + g / 3) * 512 + (8 + 128 * (g % 3) + 8 * m));
+        let c = coefficient(bytes, g, m);
         coefficients[i] = c;
         i += 1;
     }

@@ -155,6 +155,15 @@ lists-are : (l : ℕ × List Test) (more : List (ℕ × List Test))
 unfolding verdicts
 lists-are l more = sym (verdict-map (toldBefore (toldByLists more) (l .0)) found none (l .1))
 
+-- what is told, mapped
+pub verdicts-map : {A B : Type 0} (f : A → B) (refused : ℕ → ℕ → ℕ → A) (last : A) (ls : List (ℕ × List Test))
+    → f (verdicts refused last ls) ≡ verdicts (λ n p i. f (refused n p i)) (f last) ls
+unfolding verdicts
+verdicts-map f refused last [] = refl
+verdicts-map f refused last (l ∷ more) =
+    verdict-map f (λ n p. refused n p (l .0)) (verdicts refused last more) (l .1)
+    ∙ ap (λ rest. verdict (λ n p. f (refused n p (l .0))) rest (l .1)) (verdicts-map f refused last more)
+
 pub all-none-of : {A : Type 0} (refused : ℕ → ℕ → ℕ → A) (last : A) (ls : List (ℕ × List Test)) → AllListsPass ls
     → verdicts refused last ls ≡ last
 unfolding verdicts

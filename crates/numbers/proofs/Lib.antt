@@ -38,7 +38,8 @@
 --
 -- The Chebyshev polynomials of the granule rule: `Chebyshev` for their recurrence, size (E-bound),
 -- ends (E-start, E-end) and other denominators (E-scale), `Slope` for how far E_k moves when p
--- does.
+-- does; `Degrees` for the repeated differences of a function of the place, in which E_k has degree
+-- k.
 pub mod Differences
 pub mod Ring
 pub mod Order
@@ -47,6 +48,7 @@ pub mod Machine
 pub mod Solver
 pub mod Chebyshev
 pub mod Slope
+pub mod Degrees
 pub mod Flags
 pub mod Places
 pub mod Verdicts

@@ -7,15 +7,17 @@ use mathlib.Core.Logic.{⊎-elim}
 use Prim.Native.Nat.{ℕ, suc, _+_, _-_, _*_, _%_, _^_, _<_, _≤_, zero-le}
 use native.Mathlib.Nat.{zero-lt-suc, le-trans, le-of-eq, add-mul, mul-comm, mul-one, mul-pos, mul-le-mul-left, mod-eq-of-lt}
 use native.Mathlib.Omega.{arith}
-use lib.Dec.{T, leb, leb→le, le→leb, lt→ltb, ltb→lt}
+use borrow.Author.Tests.{eq-eqb, ne-eqb, eqb-true, eqb-false}
+use lib.Dec.{T, eqb, leb, leb→le, le→leb, lt→ltb, ltb→lt}
 use lib.IntN.{ℤ, pos, negsuc, negℤ, natAbs, _-ℤ_, _*ℤ_, +ℤ-idl}
 use lib.Pow.{pow-pos}
 use lib.Signed.{_≤ℤ_, _<ℤ_, ltZ, leZ, ltZ-no, shrZ, nonNeg}
 use Rattle.numbers.proofs.Differences.{rep₂, lin, rep}
-use Rattle.numbers.proofs.Order.{le-pos, ≤-total, abs-neg}
+use Rattle.numbers.proofs.Order.{le-pos, ≤-total, abs-neg, gap-none, none-gap}
 use mir.Syntax.{w64}
 use mir.Val.{Fits, SFits, toZ, ofZ}
 use Rattle.numbers.specs.Rounding.{floorDiv}
+use Rattle.numbers.specs.Signs.{gap}
 use mir.ValLaws.{toZ-ofZ, toZ-pos}
 use mir.Facts.{and-yes, yes-and}
 
@@ -93,6 +95,23 @@ fits-under (negsuc n) f = record { lt = tt }
 pub fits-range : (z : ℤ) → negsuc 9223372036854775807 ≤ℤ z → z <ℤ pos (2 ^ 63) → SFits w64 z
 fits-range (pos n) l g = record { sfits = ltb→lt n (2 ^ 63) (g .lt) }
 fits-range (negsuc n) l g = let h = leb→le n 9223372036854775807 (l .le) in record { sfits = omega arith }
+
+-- ---- two numbers of the same bits are the same
+pub same-bits : (x y : ℤ) → SFits w64 x → SFits w64 y → ofZ w64 x ≡ ofZ w64 y → x ≡ y
+same-bits x y f g e = sym (read-is x f) ∙ ap (toZ w64) e ∙ read-is y g
+
+-- so `x == y` is a test of two naturals that are the same exactly where x and y are
+pub equal-test : (x y : ℤ) (n m : ℕ) → SFits w64 x → SFits w64 y → (x ≡ y → n ≡ m) → (n ≡ m → x ≡ y)
+    → eqb (ofZ w64 x) (ofZ w64 y) ≡ eqb n m
+equal-test x y n m f g to back = by (eqb (ofZ w64 x) (ofZ w64 y)) refl
+  where
+    by : (t : Bool) → eqb (ofZ w64 x) (ofZ w64 y) ≡ t → t ≡ eqb n m
+    by true e = sym (eq-eqb n m (to (same-bits x y f g (eqb-true _ _ e))))
+    by false e = sym (ne-eqb n m (λ d. eqb-false (ofZ w64 x) (ofZ w64 y) e (ap (ofZ w64) (back d))))
+
+-- and that the two are none apart
+pub none-apart : (x y : ℤ) → SFits w64 x → SFits w64 y → eqb (ofZ w64 x) (ofZ w64 y) ≡ eqb (gap x y) 0
+none-apart x y f g = equal-test x y (gap x y) 0 f g (none-gap x y) (gap-none x y)
 
 -- ---- two tests that hold together are one
 same-test : (a b : Bool) → (T a → T b) → (T b → T a) → a ≡ b

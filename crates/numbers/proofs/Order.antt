@@ -9,6 +9,7 @@ use native.Mathlib.Omega.{arith}
 use lib.Dec.{le→leb, leb→le, lt→ltb}
 use lib.IntN.{ℤ, pos, negsuc, _+ℤ_, _-ℤ_, _*ℤ_, negℤ, natAbs}
 use lib.Signed.{_≤ℤ_, _<ℤ_}
+use Rattle.numbers.specs.Signs.{gap}
 use Rattle.numbers.proofs.Differences.{rep, rep₂, rep₃, rep₄, lin, sizes, diff-le, diff-lt}
 
 -- ---- orders
@@ -60,6 +61,16 @@ pub *-mono : (n : ℕ) (x y : ℤ) → x ≤ℤ y → (pos n *ℤ x) ≤ℤ (pos
 -- ---- absolute values
 pub abs-neg : (x : ℤ) → natAbs (negℤ x) ≡ natAbs x
 abs-neg = rep _ (λ a b. simp sizes (omega arith))
+
+-- numbers that are none apart are the same, and back
+pub gap-none : (x y : ℤ) → gap x y ≡ 0 → x ≡ y
+gap-none = rep₂ _ (λ a b c d. simp sizes (omega arith))
+
+pub none-gap : (x y : ℤ) → x ≡ y → gap x y ≡ 0
+none-gap = rep₂ _ (λ a b c d. simp sizes (omega arith))
+
+pub gap-turned : (x y : ℤ) → gap x y ≡ gap y x
+gap-turned = rep₂ _ (λ a b c d. simp sizes (omega arith))
 
 pub abs-+ : (x y : ℤ) → natAbs (x +ℤ y) ≤ natAbs x + natAbs y
 abs-+ = rep₂ _ (λ a b c d. simp sizes (omega arith))

@@ -28,6 +28,7 @@ use Rattle.written.proofs as written
 use Rattle.entries.proofs as entries
 use Rattle.filling.proofs as filling
 use Rattle.batch.proofs as batches
+use Rattle.comparing.proofs as comparing
 use Rattle.line.proofs as line
 use Rattle.printing.proofs as printing
 use Rattle.lines.proofs as lines
@@ -185,6 +186,9 @@ put-image = equation
 pub table-of : One image.table.table_of.Reads.Learnt
 table-of = equation
 
+pub coefficient : One image.take.coefficient.Reads.Learnt
+coefficient = equation
+
 pub stored : One image.take.stored.Reads.Learnt
 stored = equation
 
@@ -280,6 +284,10 @@ batch-over = both (λ κs a r s p. (p .is, p .list))
 pub batch : OneInto batches.batch.Reads.Learnt (λ κs s. s .1 .1 .1 .0 .now)
 batch = both (λ κs a r s p. (p .answer, p .list))
 
+-- ---- comparing
+pub compare : OneInto comparing.compare.Reads.Learnt (λ κs s. s .1 .1 .0 .now)
+compare = both (λ κs a r s p. (p .answer, p .list))
+
 -- ---- line
 pub read-line : One line.reading.read_line.Reads.Learnt
 read-line = equation
@@ -323,6 +331,9 @@ colliedash-read-table = both (λ κs a r s p. (p .answer, p .list))
 
 pub colliedash-write-table : OneInto hosts.tables.colliedash_write_table.Reads.Learnt (λ κs s. s .1 .1 .1 .1 .1 .0 .now)
 colliedash-write-table = both (λ κs a r s p. (p .answer, p .buffer))
+
+pub colliedash-compare-tables : OneInto hosts.changes.colliedash_compare_tables.Reads.Learnt (λ κs s. s .1 .1 .0 .now)
+colliedash-compare-tables = both (λ κs a r s p. (p .answer, p .list))
 
 pub colliedash-convert-utc : One hosts.leaps.colliedash_convert_utc.Reads.Learnt
 colliedash-convert-utc = equation

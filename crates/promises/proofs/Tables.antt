@@ -20,7 +20,7 @@ use Rattle.opened.specs.Opened.{coefficientsIn}
 use Rattle.promises.specs.Words.{Tells}
 
 -- ---- what number 0 means: the table is accepted, with its own numbers
-judged-is : (b : List ℕ) → judgedNumber (judged b) ≡ 0 → judged b ≡ Accepted (tableOf b)
+pub judged-is : (b : List ℕ) → judgedNumber (judged b) ≡ 0 → judged b ≡ Accepted (tableOf b)
 unfolding judged
 judged-is b zero = all-none judgedRefused (Accepted (tableOf b)) (tableTests b (tableOf b)) (judged-exactly b .accepted zero)
 

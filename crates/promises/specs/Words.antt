@@ -1,8 +1,10 @@
 -- The words in which the promises speak of a conversion and of a line, beside those of `desk`.
 use mathlib.Core.Path.{_≡_}
 use mathlib.Core.Logic.{_⊎_}
-use mathlib.Core.List.{List}
-use Prim.Native.Nat.{ℕ, _*_, _^_}
+use mathlib.Core.Bool.{cond}
+use mathlib.Core.List.{List, [], _∷_}
+use Prim.Native.Nat.{ℕ, _*_, _^_, _<_}
+use lib.Dec.{eqb}
 use lib.IntN.{ℤ, pos}
 use lib.Signed.{_<ℤ_}
 use Rattle.scales.specs.declared.answer.Answer.{Answer}
@@ -22,6 +24,9 @@ use Rattle.ephemeris.specs.Table.{H, placeOf, tableExact}
 use Rattle.walk.specs.declared.kept.Kept.{Kept}
 use Rattle.opened.specs.Opened.{coefficientsIn}
 use Rattle.desk.specs.Conversion.{heldBy}
+use Rattle.comparing.specs.Changes.{Entry, largestOf, sumOf}
+use Rattle.comparing.specs.Comparing.{granulesOf}
+use Rattle.comparing.specs.Same.{SameCoefficients}
 
 -- where a conversion starts: a tick of the scale that the first code names
 abbrev pub startOf : ℕ → ℤ → Epoch
@@ -58,3 +63,19 @@ denominatorIn bytes = unitsInTick * H (tableOf bytes) ^ tableOf bytes .degree
 abbrev pub exactSumIn : List ℕ → ℤ → ℤ
 exactSumIn bytes tick =
     tableExact (tableOf bytes) (coefficientsIn bytes) (placeOf (tableOf bytes) tick)
+
+-- ---- what changed between two tables
+-- the sum that a list tells of a granule: its entry's, and 0 where it has none
+unfoldable pub sumTold : List Entry → ℕ → ℕ
+sumTold [] granule = 0
+sumTold (e ∷ es) granule = cond (eqb (e .granule) granule) (e .sum) (sumTold es granule)
+
+-- an entry of the list is of a granule of the table, whose coefficients are not the same, with the
+-- largest and the sum of their differences
+pub record Lists (first second : List ℕ) (e : Entry) : Type 0 where
+  pub inside : e .granule < tableOf first .count
+  pub differs : SameCoefficients (granulesOf first (e .granule)) (granulesOf second (e .granule))
+      → ⊥
+  pub largest : e .largest
+      ≡ largestOf (granulesOf first (e .granule)) (granulesOf second (e .granule))
+  pub total : e .sum ≡ sumOf (granulesOf first (e .granule)) (granulesOf second (e .granule))

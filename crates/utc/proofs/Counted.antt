@@ -10,13 +10,14 @@ use native.Mathlib.Omega.{arith}
 use lib.Dec.{lit<}
 use lib.IntN.{ℤ, pos, negℤ, _+ℤ_, _-ℤ_, _*ℤ_}
 use lib.Signed.{_≤ℤ_, _<ℤ_, leZ, ≤ℤ-refl}
+use Rattle.numbers.specs.Signs.{gap}
 use Rattle.numbers.specs.Rounding.{floorDiv}
 use Rattle.numbers.proofs.Differences.{rep₂, rep₃, rep₄, lin}
 use Rattle.numbers.proofs.Machine.{le-yes, yes-le, no-le}
 use Rattle.numbers.proofs.Order.{le-or-lt, ≤-antisym, ≤-trans, ≤-total}
 use Rattle.numbers.proofs.Rounding.{Floored, floored}
 use Rattle.utc.specs.declared.writing.UtcWritten.the-variants as W
-use Rattle.utc.specs.Leaps.{gap, entries, firstDay, seconds, isListRight, listDay}
+use Rattle.utc.specs.Leaps.{entries, firstDay, seconds, isListRight, listDay}
 use Rattle.utc.specs.Days.{dayTicks, secondsOn, dayStart, taiBy, taiOf}
 use Rattle.utc.specs.Readings.{countedDay, utcDay, entryAt, entryStart, isWritable, utcTicks, utcOf, utcWritten}
 use Rattle.utc.proofs.Beside.{and-on, before, under, weak}

@@ -11,13 +11,15 @@ use native.Mathlib.Omega.{arith}
 use lib.Dec.{eqb, leb}
 use lib.IntN.{ℤ, pos, negℤ, natAbs}
 use lib.Signed.{_≤ℤ_, _<ℤ_, ltZ}
+use Rattle.numbers.specs.Signs.{gap}
 use Rattle.numbers.specs.Lowest.{every}
 use Rattle.numbers.proofs.Differences.{rep, rep₂, lin, sizes}
 use Rattle.numbers.proofs.Flags.{both}
 use Rattle.numbers.proofs.Machine.{lt-yes, yes-lt}
+use Rattle.numbers.proofs.Order.{gap-none, none-gap}
 use Rattle.numbers.proofs.Places.{every-at, every-is}
 use Rattle.utc.proofs.Beside.{<-trans}
-use Rattle.utc.specs.Leaps.{gap, entries, firstDay, seconds, listDay, listSeconds, mostEntries}
+use Rattle.utc.specs.Leaps.{entries, firstDay, seconds, listDay, listSeconds, mostEntries}
 use Rattle.utc.specs.Leaps.{isStartRight, isCountRight, isNextRight, isListRight}
 
 pub record Right (leaps : List ℤ) : Type 0 where
@@ -28,17 +30,14 @@ pub record Right (leaps : List ℤ) : Type 0 where
   pub rises : (k : ℕ) → suc k < entries leaps → firstDay leaps k <ℤ firstDay leaps (suc k)
   pub changes : (k : ℕ) → suc k < entries leaps → gap (seconds leaps k) (seconds leaps (suc k)) ≡ 1
 
-none-apart : (x y : ℤ) → gap x y ≡ 0 → x ≡ y
-none-apart = rep₂ _ (λ a b c d. simp sizes (omega arith))
-
 -- 'starts with day 41317 and 10 s'
 pub starts : (leaps : List ℤ) → isStartRight leaps ≡ true
     → (firstDay leaps 0 ≡ pos listDay) × (seconds leaps 0 ≡ pos listSeconds)
 unfolding isStartRight
 starts leaps e =
     let b = both (eqb (gap (firstDay leaps 0) (pos listDay)) 0) (eqb (gap (seconds leaps 0) (pos listSeconds)) 0) e in (
-      none-apart (firstDay leaps 0) (pos listDay) (eqb-true _ 0 (b .0)),
-      none-apart (seconds leaps 0) (pos listSeconds) (eqb-true _ 0 (b .1)),
+      gap-none (firstDay leaps 0) (pos listDay) (eqb-true _ 0 (b .0)),
+      gap-none (seconds leaps 0) (pos listSeconds) (eqb-true _ 0 (b .1)),
     )
 
 each : (leaps : List ℤ) → every (isNextRight leaps) (entries leaps - 1) ≡ true → (k : ℕ) → suc k < entries leaps
@@ -76,14 +75,11 @@ all-right leaps some few start each =
     let all = every-is (isNextRight leaps) (entries leaps - 1) each in
     rw (one, most, start, all)
 
-same-none : (x y : ℤ) → x ≡ y → gap x y ≡ 0
-same-none = rep₂ _ (λ a b c d. simp sizes (omega arith))
-
 is-right : (leaps : List ℤ) → Right leaps → isListRight leaps ≡ true
 unfolding isStartRight isNextRight
 is-right leaps r =
-    let day = eq-eqb (gap (firstDay leaps 0) (pos listDay)) 0 (same-none (firstDay leaps 0) (pos listDay) (r .day)) in
-    let first = eq-eqb (gap (seconds leaps 0) (pos listSeconds)) 0 (same-none (seconds leaps 0) (pos listSeconds) (r .first)) in
+    let day = eq-eqb (gap (firstDay leaps 0) (pos listDay)) 0 (none-gap (firstDay leaps 0) (pos listDay) (r .day)) in
+    let first = eq-eqb (gap (seconds leaps 0) (pos listSeconds)) 0 (none-gap (seconds leaps 0) (pos listSeconds) (r .first)) in
     all-right leaps (r .some) (r .few) (rw (day, first)) (λ k h.
     let rise = yes-lt (firstDay leaps k) (firstDay leaps (suc k)) (r .rises k (omega arith)) in
     let change = eq-eqb (gap (seconds leaps k) (seconds leaps (suc k))) 1 (r .changes k (omega arith)) in

@@ -7,10 +7,11 @@ use Prim.Native.Nat.{ℕ, suc, _≤_, _<_}
 use native.Mathlib.Omega.{arith}
 use lib.IntN.{ℤ, pos, _+ℤ_}
 use lib.Signed.{_≤ℤ_, _<ℤ_, leZ}
+use Rattle.numbers.specs.Signs.{gap}
 use Rattle.numbers.proofs.Differences.{rep₃, lin}
 use Rattle.numbers.proofs.Machine.{le-yes, yes-le, no-le}
 use Rattle.numbers.proofs.Order.{le-or-lt, ≤-total}
-use Rattle.utc.specs.Leaps.{gap, entries, firstDay, seconds, listDay}
+use Rattle.utc.specs.Leaps.{entries, firstDay, seconds, listDay}
 use Rattle.utc.specs.Days.{entryOn, secondsOn}
 use Rattle.utc.proofs.Beside.{is-next, up}
 use Rattle.utc.proofs.Fitting.{le-no}

@@ -8,10 +8,11 @@ use Prim.Native.Nat.{_*_, _≤_}
 use native.Mathlib.Omega.{arith}
 use lib.IntN.{ℤ, pos, negℤ, _+ℤ_, _-ℤ_, _*ℤ_}
 use lib.Signed.{_≤ℤ_, _<ℤ_, ≤ℤ-refl}
+use Rattle.numbers.specs.Signs.{gap}
 use Rattle.numbers.proofs.Differences.{rep₂, rep₃, rep₄, lin}
 use Rattle.numbers.proofs.Machine.{yes-lt, no-lt}
 use Rattle.numbers.proofs.Order.{≤-total}
-use Rattle.utc.specs.Leaps.{gap, isListRight, listDay}
+use Rattle.utc.specs.Leaps.{isListRight, listDay}
 use Rattle.utc.specs.Days.{dayTicks, secondTicks, secondsOn, lengthBy, lengthOf, dayStart, taiBy, taiOf}
 use Rattle.utc.proofs.Beside.{is-next, up}
 use Rattle.utc.proofs.Rules.{Right, right}

@@ -4,10 +4,11 @@ use mathlib.Core.Bool.{Bool, _&&_}
 use mathlib.Core.List.{List}
 use Prim.Native.Nat.{ℕ, suc, _+_, _*_, _-_, _/_}
 use lib.Dec.{eqb, leb}
-use lib.IntN.{ℤ, pos, natAbs, _-ℤ_}
+use lib.IntN.{ℤ, pos}
 use lib.ListN.{length, getD}
 use lib.Signed.{ltZ}
 use Rattle.numbers.specs.Lowest.{every}
+use Rattle.numbers.specs.Signs.{gap}
 
 -- ---- the pairs, called entries, from entry 0 on
 unfoldable pub entries : List ℤ → ℕ
@@ -20,10 +21,6 @@ unfoldable pub seconds : List ℤ → ℕ → ℤ
 seconds leaps k = getD leaps (2 * k + 1) (pos 0)
 
 -- ---- the rule
--- how far two numbers are apart
-abbrev pub gap : ℤ → ℤ → ℕ
-gap x y = natAbs (y -ℤ x)
-
 -- 'up to 64 pairs'; a list of none is not right either
 abbrev pub mostEntries : ℕ
 mostEntries = 64

@@ -5,7 +5,8 @@ ghost use mathlib.Core.Path.{_≡_};
 ghost use Prim.Native.Nat.{_<_, _≤_};
 ghost use lib.Dec.{eqb};
 ghost use lib.IntN.{natAbs};
-ghost use Rattle.utc.specs.Leaps.{gap, entries, isStartRight, isNextRight, isListRight};
+ghost use Rattle.numbers.specs.Signs.{gap};
+ghost use Rattle.utc.specs.Leaps.{entries, isStartRight, isNextRight, isListRight};
 ghost use Rattle.utc.specs.Asked.{Followed};
 
 // 'seconds change by exactly one'. The seconds before are within 100 of 0, as those of a list that

@@ -1,6 +1,6 @@
 //! The desk at the other end of a bridge.
 
-use super::wire::{self, ANSWER_NUMBERS, Arguments, Fields, GIVEN, NOTHING, SAME};
+use super::wire::{self, ANSWER_NUMBERS, Arguments, Fields, GIVEN, NOTHING, SAME, TABLES};
 use crate::compare::{Asked, Called, Desk, Lent, Outcome, bytes_of_ticks};
 use std::io::{self, ErrorKind, Read, Write};
 use std::net::Shutdown;
@@ -63,8 +63,9 @@ pub struct Bridge {
     child: Child,
     line: Line,
     answers: u64,
-    /// The table that was given last; the bridge still has it.
-    table: Option<Vec<u8>>,
+    /// The tables that were given last, each in its place; the bridge still has
+    /// them there.
+    tables: [Option<Vec<u8>>; TABLES],
 }
 
 /// The bridge is not needed any more, and may be one that hangs.
@@ -110,32 +111,34 @@ impl Bridge {
                 begin: Instant::now(),
             },
             answers: 0,
-            table: None,
+            tables: [None, None],
         })
     }
 
-    /// A request's bytes. A table that the bridge has already is not sent again.
+    /// A request's bytes. A table that the bridge has already in this place is not
+    /// sent again; one that it has in the other place is.
     fn request(&mut self, function: u64, arguments: Arguments, lent: &Lent) -> Vec<u8> {
-        let same = self.table.as_deref() == Some(lent.table);
         let list = bytes_of_ticks(lent.list);
-        let places = [lent.table, &list, &lent.buffer];
-        let mut bytes = Vec::new();
+        let places = [lent.table, lent.second_table, &list, &lent.buffer];
+        let (mut bytes, mut given) = (Vec::new(), Vec::new());
         wire::put(&mut bytes, &[function]);
         wire::put(&mut bytes, &arguments);
-        for (i, place) in places.iter().enumerate() {
-            let kind = match i {
+        for (i, place) in places.into_iter().enumerate() {
+            let kind = match self.tables.get_mut(i) {
                 _ if place.is_empty() && lent.null => NOTHING,
-                0 if same => SAME,
-                _ => GIVEN,
+                Some(Some(last)) if last == place => SAME,
+                Some(last) => {
+                    *last = Some(place.to_vec());
+                    GIVEN
+                }
+                None => GIVEN,
             };
             wire::put(&mut bytes, &[kind, place.len() as u64]);
-            if i == 0 && kind == GIVEN {
-                self.table = Some(place.to_vec());
+            if kind == GIVEN {
+                given.extend_from_slice(place);
             }
         }
-        for place in &places[usize::from(same)..] {
-            bytes.extend_from_slice(place);
-        }
+        bytes.extend(given);
         bytes
     }
 

@@ -1,7 +1,9 @@
 //! A bridge with second's own functions in it, and with faults on demand: the
 //! other end when the client and the comparisons themselves are tested.
 
-use super::wire::{self, ANSWER_NUMBERS, Arguments, Fields, GIVEN, NOTHING, REQUEST_NUMBERS, SAME};
+use super::wire::{
+    self, ANSWER_NUMBERS, Arguments, Fields, GIVEN, NOTHING, PLACES, REQUEST_NUMBERS, SAME,
+};
 use crate::compare::{Desk, Lent, Own};
 use std::io::{self, ErrorKind, Read, Write};
 
@@ -21,6 +23,7 @@ pub enum Fault {
     /// Has seen what it has no name for.
     Seen,
     ChangesTable,
+    ChangesSecondTable,
     ChangesList,
     WritesBeside,
     /// Answers another number than the right one.
@@ -30,7 +33,7 @@ pub enum Fault {
 }
 
 impl Fault {
-    pub const ALL: [(&str, Fault); 12] = [
+    pub const ALL: [(&str, Fault); 13] = [
         ("none", Fault::None),
         ("ends", Fault::Ends),
         ("ends-in-answer", Fault::EndsInAnswer),
@@ -39,6 +42,7 @@ impl Fault {
         ("wide", Fault::Wide),
         ("seen", Fault::Seen),
         ("changes-table", Fault::ChangesTable),
+        ("changes-second-table", Fault::ChangesSecondTable),
         ("changes-list", Fault::ChangesList),
         ("writes-beside", Fault::WritesBeside),
         ("wrong", Fault::Wrong),
@@ -55,10 +59,11 @@ impl Fault {
         let [_, seen, number, ..] = head;
         match self {
             Fault::Wide => *number |= 1 << 32,
-            Fault::Seen => *seen |= 1 << 5,
+            Fault::Seen => *seen |= 1 << wire::SEEN.len(),
             Fault::ChangesTable => *seen |= 1,
-            Fault::ChangesList => *seen |= 2,
-            Fault::WritesBeside => *seen |= 16,
+            Fault::ChangesSecondTable => *seen |= 2,
+            Fault::ChangesList => *seen |= 4,
+            Fault::WritesBeside => *seen |= 64,
             Fault::Wrong => *number ^= 1,
             Fault::WrongByte => {
                 if let Some(last) = written.last_mut() {
@@ -70,11 +75,11 @@ impl Fault {
     }
 }
 
-/// The three places that are lent: what was GIVEN last, and what is lent now.
+/// The places that are lent: what was GIVEN last, and what is lent now.
 #[derive(Default)]
 struct Places {
-    given: [Vec<u8>; 3],
-    lent: [bool; 3],
+    given: [Vec<u8>; PLACES],
+    lent: [bool; PLACES],
 }
 
 impl Places {
@@ -118,8 +123,9 @@ fn call(
     let asked = wire::asked_of(function, arguments).ok_or(ErrorKind::InvalidData)?;
     let lent = Lent {
         table: places.bytes(0),
-        list: &wire::ticks_of_bytes(places.bytes(1)),
-        buffer: places.bytes(2).to_vec(),
+        second_table: places.bytes(1),
+        list: &wire::ticks_of_bytes(places.bytes(2)),
+        buffer: places.bytes(3).to_vec(),
         null: false,
     };
     let called = own.call(asked, &lent).map_err(io::Error::other)?;

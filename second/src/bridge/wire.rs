@@ -1,6 +1,6 @@
 //! Requests and answers as bytes. bridge/bridge.c tells what each means.
 
-use crate::compare::{Answer, Asked, Date, Reply, TableAnswer, UtcAnswer};
+use crate::compare::{Answer, Asked, ChangesAnswer, Date, Reply, TableAnswer, UtcAnswer};
 use crate::dates::Reading;
 use crate::utc::Utc;
 
@@ -16,22 +16,30 @@ const CONVERT_J2000: u64 = 7;
 const BATCH: u64 = 8;
 const CONVERT_UTC: u64 = 9;
 const WRITE_UTC: u64 = 10;
+const COMPARE_TABLES: u64 = 11;
 
 /// How a place is lent.
 pub const NOTHING: u64 = 0;
 pub const GIVEN: u64 = 1;
 pub const SAME: u64 = 2;
 
+/// The places that are lent: the table, the second table, the list, the buffer.
+pub const PLACES: usize = 4;
+/// The first of these hold the tables.
+pub const TABLES: usize = 2;
+
 /// What the bridge can have seen beside an answer, from bit 0 on.
-pub const SEEN: [&str; 5] = [
+pub const SEEN: [&str; 7] = [
     "the table's bytes were changed",
+    "the second table's bytes were changed",
     "the list lent to read was changed",
     "bytes beside the lent table were written",
+    "bytes beside the second lent table were written",
     "bytes beside the list lent to read were written",
     "bytes beside the lent buffer were written",
 ];
 
-pub const REQUEST_NUMBERS: usize = 11;
+pub const REQUEST_NUMBERS: usize = 5 + 2 * PLACES;
 pub const ANSWER_NUMBERS: usize = 8;
 
 /// The plain arguments of a call and the fields of an answer.
@@ -67,6 +75,7 @@ pub fn numbers_of(asked: Asked) -> (u64, Arguments) {
             let arguments = [range[0], range[1], count.into(), degree.into()];
             (WRITE_TABLE, arguments)
         }
+        Asked::CompareTables => (COMPARE_TABLES, [0; 4]),
         Asked::WriteDate { tick } => (WRITE_DATE, [tick.cast_unsigned(), 0, 0, 0]),
         Asked::Convert { from, to, reading } => {
             let (function, [first, second]) = match reading {
@@ -112,6 +121,7 @@ pub fn asked_of(function: u64, [a, b, c, d]: Arguments) -> Option<Asked> {
             count: c as u32,
             degree: d as u32,
         }),
+        (COMPARE_TABLES, _) => Some(Asked::CompareTables),
         (WRITE_DATE, _) => Some(Asked::WriteDate {
             tick: a.cast_signed(),
         }),
@@ -158,6 +168,10 @@ pub fn fields_of(reply: &Reply) -> Fields {
             let [day, ticks] = [utc.day, utc.ticks].map(i64::cast_unsigned);
             [number, steps, utc.place, day, ticks, 0]
         }
+        Reply::Changes(changes) => {
+            let (number, which) = (changes.number.into(), changes.which.into());
+            [number, which, changes.place, changes.entries, 0, 0]
+        }
     }
 }
 
@@ -192,7 +206,15 @@ pub fn reply_of(asked: Asked, fields: Fields) -> Option<Reply> {
                 ticks: ticks.cast_signed(),
             }))
         }
-        (Asked::WriteDate { .. } | Asked::WriteUtc { .. }, _) => None,
+        (Asked::CompareTables, [number, which, place, entries, 0, 0]) => {
+            Some(Reply::Changes(ChangesAnswer {
+                number: narrow(number)?,
+                which: narrow(which)?,
+                place,
+                entries,
+            }))
+        }
+        (Asked::WriteDate { .. } | Asked::WriteUtc { .. } | Asked::CompareTables, _) => None,
         (_, [number, steps, place, index, tick, 0]) => Some(Reply::Answer(Answer {
             number: narrow(number)?,
             steps: narrow(steps)?,

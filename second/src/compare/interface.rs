@@ -1,5 +1,6 @@
-//! The interface: what is asked and lent, the four answers, and a desk.
+//! The interface: what is asked and lent, the five answers, and a desk.
 
+use crate::changes::PairRefusal;
 use crate::dates::Reading;
 use crate::desk::{BatchRefusal, Converted, Written};
 use crate::refusal::Refusal;
@@ -39,6 +40,14 @@ pub struct UtcAnswer {
     pub place: u64,
     pub day: i64,
     pub ticks: i64,
+}
+
+#[derive(Clone, Copy, Debug, Default, PartialEq, Eq)]
+pub struct ChangesAnswer {
+    pub number: u32,
+    pub which: u32,
+    pub place: u64,
+    pub entries: u64,
 }
 
 /// Bit for bit: 0.0 and −0.0 are two answers.
@@ -144,6 +153,24 @@ impl From<Result<Written, Refusal>> for UtcAnswer {
     }
 }
 
+/// "the counts that are answered are in triples", so this takes that of the list.
+impl From<Result<usize, PairRefusal>> for ChangesAnswer {
+    fn from(compared: Result<usize, PairRefusal>) -> ChangesAnswer {
+        match compared {
+            Ok(entries) => ChangesAnswer {
+                entries: entries as u64,
+                ..ChangesAnswer::default()
+            },
+            Err(PairRefusal { refusal, which }) => ChangesAnswer {
+                number: refusal.number,
+                which,
+                place: refusal.place,
+                ..ChangesAnswer::default()
+            },
+        }
+    }
+}
+
 /// A function of the interface, with the arguments that are plain numbers.
 #[derive(Clone, Copy, Debug)]
 pub enum Asked {
@@ -155,6 +182,7 @@ pub enum Asked {
         count: u32,
         degree: u32,
     },
+    CompareTables,
     WriteDate {
         tick: i64,
     },
@@ -179,6 +207,8 @@ pub enum Asked {
 #[derive(Clone, Debug, Default)]
 pub struct Lent<'a> {
     pub table: &'a [u8],
+    /// The second table, where two are compared.
+    pub second_table: &'a [u8],
     /// The coefficients, the ticks or the pairs of TAI−UTC lent to be read.
     pub list: &'a [i64],
     /// What stands in the buffer lent to be written, before the call.
@@ -205,6 +235,7 @@ pub enum Reply {
     Date(Date),
     Table(TableAnswer),
     Utc(UtcAnswer),
+    Changes(ChangesAnswer),
 }
 
 impl Reply {
@@ -214,6 +245,7 @@ impl Reply {
             Reply::Date(date) => date.number,
             Reply::Table(table) => table.number,
             Reply::Utc(utc) => utc.number,
+            Reply::Changes(changes) => changes.number,
         }
     }
 }

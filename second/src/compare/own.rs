@@ -1,36 +1,59 @@
 //! Second's own answers behind the same interface: what a desk should answer.
 
 use super::buffers::bytes_of_ticks;
-use super::interface::{Answer, Asked, Called, Desk, Lent, Outcome, Reply, TableAnswer};
+use super::interface::{
+    Answer, Asked, Called, ChangesAnswer, Desk, Lent, Outcome, Reply, TableAnswer,
+};
 use crate::blocks;
+use crate::changes::{Entry, compare_tables};
 use crate::dates::{self, Reading};
 use crate::desk::{self, Converted};
 use crate::table::{Judged, Table};
 
-/// It keeps the table that it judged last, since many calls are lent the same.
-pub struct Own {
+/// The table that was judged last in one place, since many calls are lent the
+/// same.
+struct Kept {
     bytes: Vec<u8>,
     judged: Judged,
 }
 
-impl Default for Own {
-    fn default() -> Own {
+impl Default for Kept {
+    fn default() -> Kept {
         let bytes = Vec::new();
         let judged = blocks::judge(&bytes);
-        Own { bytes, judged }
+        Kept { bytes, judged }
     }
 }
 
-impl Own {
-    pub fn judged(&mut self, table: &[u8]) -> &Judged {
+impl Kept {
+    fn judged(&mut self, table: &[u8]) -> &Judged {
         if self.bytes != table {
             self.bytes = table.to_vec();
             self.judged = blocks::judge(table);
         }
         &self.judged
     }
+}
 
-    /// The answer, and what is written into the buffer where it is accepted.
+#[derive(Default)]
+pub struct Own {
+    table: Kept,
+    second_table: Kept,
+}
+
+impl Own {
+    pub fn judged(&mut self, table: &[u8]) -> &Judged {
+        self.table.judged(table)
+    }
+
+    /// The table and the second one, where two are compared.
+    pub fn both_judged(&mut self, lent: &Lent) -> [&Judged; 2] {
+        let second = self.second_table.judged(lent.second_table);
+        [self.table.judged(lent.table), second]
+    }
+
+    /// The answer, and what is written to the front of the buffer where it is
+    /// accepted.
     fn answer(&mut self, asked: Asked, lent: &Lent) -> (Reply, Option<Vec<u8>>) {
         match asked {
             Asked::Judge => {
@@ -53,6 +76,13 @@ impl Own {
                     coefficients,
                 };
                 write_table(&table, lent.buffer.len())
+            }
+            Asked::CompareTables => {
+                let [first, second] = self.both_judged(lent);
+                let list = compare_tables(first, second, lent.buffer.len() / 8);
+                let answer = ChangesAnswer::from(list.as_ref().map(Vec::len).map_err(|r| *r));
+                let written = list.map(|list| bytes_of_entries(&list));
+                (Reply::Changes(answer), written.ok())
             }
             Asked::WriteDate { tick } => (Reply::Date(dates::write_date(tick).into()), None),
             Asked::Convert { from, to, reading } => {
@@ -91,13 +121,23 @@ fn write_table(table: &Table, length: usize) -> (Reply, Option<Vec<u8>>) {
     (Reply::Answer(answer), image.ok())
 }
 
+/// "a flat list of triples, granule, largest, sum"
+fn bytes_of_entries(list: &[Entry]) -> Vec<u8> {
+    let numbers: Vec<i64> = list.iter().flat_map(Entry::numbers).collect();
+    bytes_of_ticks(&numbers)
+}
+
 impl Desk for Own {
     fn call(&mut self, asked: Asked, lent: &Lent) -> Outcome {
         let (reply, written) = self.answer(asked, lent);
+        // "On a refusal nothing lent is written", and of a list that is shorter
+        // than its buffer "the rest of the buffer stays".
+        let mut buffer = lent.buffer.clone();
+        let written = written.unwrap_or_default();
+        buffer[..written.len()].copy_from_slice(&written);
         Ok(Called {
             reply,
-            // "On a refusal nothing lent is written."
-            buffer: written.unwrap_or_else(|| lent.buffer.clone()),
+            buffer,
             beside: Vec::new(),
         })
     }

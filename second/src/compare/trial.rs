@@ -6,6 +6,7 @@ use super::ledger::Ledger;
 use super::own::Own;
 use crate::dates::Reading;
 use crate::generate::Random;
+use crate::table::Judged;
 use crate::utc::GREATEST_PAIRS;
 
 /// So much of a lent list is shown with a difference: all of a list of TAI−UTC.
@@ -68,18 +69,36 @@ fn differences(called: &Called, expected: &Called) -> Vec<String> {
         ));
     }
     if called.buffer != expected.buffer {
-        list.push("the lent buffer is not as it should be".into());
+        let both = called.buffer.iter().zip(&expected.buffer);
+        let same = both.take_while(|(byte, other)| byte == other).count();
+        list.push(format!(
+            "the lent buffer is not as it should be from byte {same} on"
+        ));
     }
     list.extend(called.beside.iter().map(|what| what.to_string()));
     list
 }
 
-/// The call in a few words.
-fn told(own: &mut Own, asked: Asked, lent: &Lent) -> String {
-    let table = match own.judged(lent.table) {
-        Ok(table) => format!("S {} H {} G {}", table.start, table.length, table.count),
+/// A table in a few words.
+fn told_table(bytes: &[u8], judged: &Judged) -> String {
+    let what = match judged {
+        Ok(table) => format!(
+            "S {} H {} G {} n {}",
+            table.start, table.length, table.count, table.degree
+        ),
         Err(refusal) => format!("refused {}", refusal.number),
     };
+    format!("table of {} bytes ({what})", bytes.len())
+}
+
+/// The call in a few words.
+fn told(own: &mut Own, asked: Asked, lent: &Lent) -> String {
+    let [first, second] = own.both_judged(lent);
+    let mut tables = told_table(lent.table, first);
+    if let Asked::CompareTables = asked {
+        let second = told_table(lent.second_table, second);
+        tables = format!("{tables}, second {second}");
+    }
     // A double's digits do not tell which NaN it is.
     let bits = match asked {
         Asked::Convert {
@@ -94,9 +113,7 @@ fn told(own: &mut Own, asked: Asked, lent: &Lent) -> String {
     };
     let list = &lent.list[..lent.list.len().min(SHOWN)];
     format!(
-        "{asked:?} bits {bits:x?}, table of {} bytes ({table}), list of {} ({list:?}), \
-         buffer of {} bytes",
-        lent.table.len(),
+        "{asked:?} bits {bits:x?}, {tables}, list of {} ({list:?}), buffer of {} bytes",
         lent.list.len(),
         lent.buffer.len()
     )

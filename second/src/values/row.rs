@@ -23,10 +23,9 @@ pub struct Call {
 impl Call {
     pub fn lent(&self) -> Lent<'_> {
         Lent {
-            table: &self.bytes,
             list: &self.list,
             buffer: blank(self.room),
-            null: false,
+            ..Lent::table(&self.bytes)
         }
     }
 

@@ -39,7 +39,7 @@ pub fn archive(name: &str, files: &[&str]) -> (PathBuf, Command) {
 }
 
 pub static WHOLE: LazyLock<PathBuf> = LazyLock::new(|| {
-    let (folder, mut build) = archive("whole", &["tables", "conversions", "utc"]);
+    let (folder, mut build) = archive("whole", &["tables", "conversions", "utc", "changes"]);
     succeeds(&mut build);
     folder.join("bridge")
 });

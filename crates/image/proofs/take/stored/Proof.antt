@@ -1,9 +1,8 @@
 -- `image::take::stored` meets its contract. Each coefficient taken so far is the one stored there.
 -- Assumes nothing.
-use Prim.Native.Nat.{ℕ, _+_, _-_, _≤_, _<_, zero-le}
+use Prim.Native.Nat.{ℕ, _-_, _≤_, _<_, zero-le}
 use Rattle.numbers.proofs.Places.{is-upTo, written-more}
-use Rattle.image.proofs.Slots.{stored-fits}
-use Rattle.image.specs.Image.{storedAt, coefficientAt, storedOf}
+use Rattle.image.specs.Image.{coefficientAt, storedOf}
 use borrow.Author.Count.{below-none}
 use lib.IntN.{pos}
 use lib.ListN.{length, getD, length-set}
@@ -22,39 +21,11 @@ Inv-loop bytes granule coefficients₀ m₀ coefficients m =
 abbrev μ-loop : tie.MeasureT-loop
 μ-loop bytes granule coefficients₀ m₀ coefficients m = 16 - m
 
-here : (c : tie.In-loop Inv-loop μ-loop)
-    → storedAt (c .before .before .before .args .granule) (c .before .loop .m) + 8
-    ≤ length (c .before .before .before .args .bytes .now)
-here c =
-    let s = c .before .before .before in
-    stored-fits (s .args .granule) (c .before .loop .m) _ (omega arith) (s .pre .long)
-
 loop-holds : tie.Need-loop-holds Inv-loop μ-loop
 loop-holds c = (zero-le, refl, below-none _)
 
-add-number-at : tie.Need-add-number-at Inv-loop μ-loop
-add-number-at c = let r = here c in let f = c .before .before .before .pre .few in omega arith
-
-mul-number-at : tie.Need-mul-number-at Inv-loop μ-loop
-mul-number-at c = let r = here c in let f = c .before .before .before .pre .few in omega arith
-
-mul-number-at-2 : tie.Need-mul-number-at-2 Inv-loop μ-loop
-mul-number-at-2 c = let r = here c in let f = c .before .before .before .pre .few in omega arith
-
-add-number-at-2 : tie.Need-add-number-at-2 Inv-loop μ-loop
-add-number-at-2 c = let r = here c in let f = c .before .before .before .pre .few in omega arith
-
-mul-number-at-3 : tie.Need-mul-number-at-3 Inv-loop μ-loop
-mul-number-at-3 c = let r = here c in let f = c .before .before .before .pre .few in omega arith
-
-add-number-at-3 : tie.Need-add-number-at-3 Inv-loop μ-loop
-add-number-at-3 c = let r = here c in let f = c .before .before .before .pre .few in omega arith
-
-add-number-at-4 : tie.Need-add-number-at-4 Inv-loop μ-loop
-add-number-at-4 c = let r = here c in let f = c .before .before .before .pre .few in omega arith
-
-number-at-requires : tie.Need-number-at-requires Inv-loop μ-loop
-number-at-requires c κs = here c
+coefficient-requires : tie.Need-coefficient-requires Inv-loop μ-loop
+coefficient-requires c κs = record { granule = c .before .before .before .pre; which = omega arith }
 
 mul-coefficients : tie.Need-mul-coefficients Inv-loop μ-loop
 mul-coefficients c = omega arith
@@ -69,15 +40,14 @@ loop-less : tie.Need-loop-less Inv-loop μ-loop
 loop-less c = omega arith
 
 loop-again : tie.Need-loop-again Inv-loop μ-loop
-unfolding coefficientAt
 loop-again c =
     let l = c .before .before .loop in
     let s = c .before .before .before .before .args in
-    let z = c .number-at .result in (
+    let z = c .coefficient .result in (
       omega arith,
       simp length-set (l .inv .1),
       written-more (l .coefficients) (l .m) _ (pos 0) (λ j. coefficientAt (s .bytes .now) (s .granule) j) (omega arith) (l .inv .2)
-          (toZ-ofZ w64 z (record { sfits = c .number-at .ok }) ∙ c .number-at .ensures),
+          (toZ-ofZ w64 z (record { sfits = c .coefficient .ok }) ∙ c .coefficient .ensures),
     )
 
 returns : tie.Need-returns Inv-loop μ-loop
@@ -93,14 +63,7 @@ stored-spec =
     Inv-loop
     μ-loop
     loop-holds
-    add-number-at
-    mul-number-at
-    mul-number-at-2
-    add-number-at-2
-    mul-number-at-3
-    add-number-at-3
-    add-number-at-4
-    number-at-requires
+    coefficient-requires
     mul-coefficients
     array-set-from-coefficients
     add-m

@@ -1,10 +1,9 @@
 -- `image::take::take_coefficients` meets its contract. Each coefficient taken so far is the one
 -- stored for its granule. Assumes nothing.
-use Prim.Native.Nat.{ℕ, _+_, _*_, _-_, _/_, _%_, _≤_, _<_, zero-le}
+use Prim.Native.Nat.{ℕ, _+_, _-_, _/_, _%_, _≤_, _<_, zero-le}
 use Rattle.numbers.proofs.Places.{is-upTo, written-more}
-use Rattle.image.proofs.Slots.{place-fits}
-use Rattle.form.specs.Form.{blocksOf}
-use Rattle.image.specs.Image.{storedAt, coefficientAt, coefficientsStored}
+use Rattle.image.proofs.Slots.{listed-stored}
+use Rattle.image.specs.Image.{coefficientAt, coefficientsStored}
 use borrow.Author.Count.{below-none}
 use borrow.Author.Needs.{needs}
 use lib.IntN.{pos}
@@ -24,18 +23,6 @@ Inv-loop bytes count degree coefficients₀ i₀ coefficients i =
 abbrev μ-loop : tie.MeasureT-loop
 μ-loop bytes count degree coefficients₀ i₀ coefficients i = length coefficients₀ - i
 
-abbrev start : tie.In-loop Inv-loop μ-loop → tie.Start Inv-loop μ-loop
-start c = c .before .before .before
-
--- where the next coefficient stands
-abbrev place : tie.In-loop Inv-loop μ-loop → ℕ
-place c = storedAt (c .before .loop .i / (start c .args .degree + 1)) (c .before .loop .i % (start c .args .degree + 1))
-
-room : (c : tie.In-loop Inv-loop μ-loop) → place c + 8 ≤ blocksOf (start c .args .count) * 512
-room c =
-    let s = c .before .before .before in
-    place-fits (s .args .count) (s .args .degree) (c .before .loop .i) (s .pre .bounds .degree) (omega arith)
-
 loop-holds : tie.Need-loop-holds Inv-loop μ-loop
 loop-holds c = (zero-le, refl, below-none _)
 
@@ -51,29 +38,10 @@ add-m c = search needs
 rem-m : tie.Need-rem-m Inv-loop μ-loop
 rem-m c = search needs
 
-add-number-at : tie.Need-add-number-at Inv-loop μ-loop
-add-number-at c = let r = room c in omega arith
-
-mul-number-at : tie.Need-mul-number-at Inv-loop μ-loop
-mul-number-at c = let r = room c in omega arith
-
-mul-number-at-2 : tie.Need-mul-number-at-2 Inv-loop μ-loop
-mul-number-at-2 c = search needs
-
-add-number-at-2 : tie.Need-add-number-at-2 Inv-loop μ-loop
-add-number-at-2 c = search needs
-
-mul-number-at-3 : tie.Need-mul-number-at-3 Inv-loop μ-loop
-mul-number-at-3 c = let r = room c in omega arith
-
-add-number-at-3 : tie.Need-add-number-at-3 Inv-loop μ-loop
-add-number-at-3 c = let r = room c in omega arith
-
-add-number-at-4 : tie.Need-add-number-at-4 Inv-loop μ-loop
-add-number-at-4 c = let r = room c in omega arith
-
-number-at-requires : tie.Need-number-at-requires Inv-loop μ-loop
-number-at-requires c κs = rw (c .before .before .before .pre .blocks) (room c)
+coefficient-requires : tie.Need-coefficient-requires Inv-loop μ-loop
+coefficient-requires c κs =
+    let s = c .before .before .before in
+    listed-stored _ (s .args .count) (s .args .degree) (c .before .loop .i) (s .pre .bounds) (s .pre .blocks) (omega arith)
 
 mul-c : tie.Need-mul-c Inv-loop μ-loop
 mul-c c = search needs
@@ -88,16 +56,15 @@ loop-less : tie.Need-loop-less Inv-loop μ-loop
 loop-less c = omega arith
 
 loop-again : tie.Need-loop-again Inv-loop μ-loop
-unfolding coefficientAt
 loop-again c =
     let l = c .before .before .loop in
     let s = c .before .before .before .before .args in
-    let z = c .number-at .result in
+    let z = c .coefficient .result in
     let at = coefficientAt (s .bytes .now) in (
       simp length-set (omega arith),
       simp length-set (l .inv .1),
       written-more (l .coefficients) (l .i) _ (pos 0) (λ j. at (j / (s .degree + 1)) (j % (s .degree + 1))) (slice-set-from-c c) (l .inv .2)
-          (toZ-ofZ w64 z (record { sfits = c .number-at .ok }) ∙ c .number-at .ensures),
+          (toZ-ofZ w64 z (record { sfits = c .coefficient .ok }) ∙ c .coefficient .ensures),
     )
 
 same-length : tie.Need-same-length Inv-loop μ-loop
@@ -121,14 +88,7 @@ take-coefficients-spec =
     div-g
     add-m
     rem-m
-    add-number-at
-    mul-number-at
-    mul-number-at-2
-    add-number-at-2
-    mul-number-at-3
-    add-number-at-3
-    add-number-at-4
-    number-at-requires
+    coefficient-requires
     mul-c
     slice-set-from-c
     add-i

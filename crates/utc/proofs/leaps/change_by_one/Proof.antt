@@ -8,10 +8,9 @@ use lib.Dec.{lit<}
 use lib.IntN.{ℤ, pos, natAbs, _+ℤ_, _-ℤ_}
 use mir.Syntax.{w64}
 use mir.Val.{SFits, ofZ}
+use Rattle.numbers.specs.Signs.{gap}
 use Rattle.numbers.proofs.Differences.{rep, rep₂, lin, sizes}
-use Rattle.numbers.proofs.Machine.{fits-small, read, read-is}
-use Rattle.utc.specs.Leaps.{gap}
-use Rattle.utc.proofs.Fitting.{same-bits, equal-test}
+use Rattle.numbers.proofs.Machine.{fits-small, read, read-is, same-bits, equal-test}
 use Rattle.utc.proofs.leaps.change_by_one.Statement.{statement}
 use Rattle.utc.proofs.leaps.change_by_one.Tie as tie
 

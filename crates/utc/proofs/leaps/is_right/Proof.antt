@@ -13,11 +13,12 @@ use native.Mathlib.Omega.{arith}
 use lib.Dec.{eqb, leb}
 use lib.IntN.{ℤ, pos, natAbs}
 use lib.Signed.{ltZ}
+use Rattle.numbers.specs.Signs.{gap}
 use Rattle.numbers.proofs.Differences.{rep, rep₂, sizes}
 use Rattle.numbers.proofs.Flags.{and-right, both}
 use Rattle.numbers.proofs.Places.{every-not}
 use Rattle.utc.specs.Asked.{Followed}
-use Rattle.utc.specs.Leaps.{gap, entries, firstDay, seconds, isStartRight, isCountRight, isNextRight, isListRight, mostEntries}
+use Rattle.utc.specs.Leaps.{entries, firstDay, seconds, isStartRight, isCountRight, isNextRight, isListRight, mostEntries}
 use Rattle.utc.proofs.Rules.{all-right, starts}
 use Rattle.utc.proofs.leaps.is_right.Statement.{statement}
 use Rattle.utc.proofs.leaps.is_right.Tie as tie

@@ -7,8 +7,9 @@ use lib.Dec.{eqb, lit<}
 use lib.IntN.{ℤ, pos}
 use mir.Syntax.{w64}
 use mir.Val.{ofZ}
-use Rattle.utc.specs.Leaps.{gap, firstDay, isStartRight, listDay, listSeconds, seconds}
-use Rattle.utc.proofs.Fitting.{none-apart}
+use Rattle.numbers.specs.Signs.{gap}
+use Rattle.numbers.proofs.Machine.{none-apart}
+use Rattle.utc.specs.Leaps.{firstDay, isStartRight, listDay, listSeconds, seconds}
 use Rattle.utc.proofs.leaps.is_start_right.Statement.{statement}
 use Rattle.utc.proofs.leaps.is_start_right.Tie as tie
 
@@ -23,13 +24,13 @@ tested : (c : tie.After-first-day)
     → eqb (ofZ w64 (c .first-day .result)) listDay
     ≡ eqb (gap (firstDay (c .before .args .leaps .now) 0) (pos listDay)) 0
 tested c =
-    none-apart (c .first-day .result) listDay (record { sfits = c .first-day .ok }) (lit< tt)
+    none-apart (c .first-day .result) (pos listDay) (record { sfits = c .first-day .ok }) (record { sfits = lit< tt })
     ∙ ap (λ (z : ℤ). eqb (gap z (pos listDay)) 0) (c .first-day .ensures)
 
 tested-2 : (c : tie.After-seconds-of) → eqb (ofZ w64 (c .seconds-of .result)) listSeconds
     ≡ eqb (gap (seconds (c .before .before .before .args .leaps .now) 0) (pos listSeconds)) 0
 tested-2 c =
-    none-apart (c .seconds-of .result) listSeconds (record { sfits = c .seconds-of .ok }) (lit< tt)
+    none-apart (c .seconds-of .result) (pos listSeconds) (record { sfits = c .seconds-of .ok }) (record { sfits = lit< tt })
     ∙ ap (λ (z : ℤ). eqb (gap z (pos listSeconds)) 0) (c .seconds-of .ensures)
 
 returns : tie.Need-returns
