@@ -119,7 +119,7 @@ put-more es entries at g change e h =
     rw (many, flat-append es (entry ∷ []), ← e) (put-three (flat es) entries at _ _ _ (flat-length es ∙ sym e) h)
 
 -- ---- the list place by place
--- the three numbers of entry i, and nothing else
+-- where the three numbers of an entry stand, if it is entry i
 pub record Three (l : List ℤ) (i : ℕ) (e : Entry) : Type 0 where
   pub granule : getD l (3 * i) (pos 0) ≡ pos (e .granule)
   pub largest : getD l (3 * i + 1) (pos 0) ≡ pos (e .largest)
