@@ -7,6 +7,7 @@ mod changes;
 mod conversions;
 mod interface;
 mod ledger;
+mod near_ties;
 mod own;
 mod readings;
 mod stage;
@@ -46,7 +47,7 @@ impl Comparison {
 }
 
 /// Every comparison there is.
-pub const COMPARISONS: [Comparison; 18] = [
+pub const COMPARISONS: [Comparison; 20] = [
     Comparison {
         name: "colliedash_judge",
         run: tables::judge,
@@ -80,6 +81,10 @@ pub const COMPARISONS: [Comparison; 18] = [
         run: table_steps::tdb_to_tt,
     },
     Comparison {
+        name: "colliedash_convert_ticks, around halves of a tick",
+        run: near_ties::convert_ticks,
+    },
+    Comparison {
         name: "colliedash_convert_date",
         run: conversions::convert_date,
     },
@@ -102,6 +107,10 @@ pub const COMPARISONS: [Comparison; 18] = [
     Comparison {
         name: "colliedash_batch",
         run: batches::batch,
+    },
+    Comparison {
+        name: "colliedash_batch, around halves of a tick",
+        run: near_ties::batch,
     },
     Comparison {
         name: "colliedash_convert_utc",

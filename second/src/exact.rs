@@ -17,6 +17,22 @@ pub fn nearest(numerator: i128, denominator: i128) -> i128 {
     (2 * numerator + denominator).div_euclid(2 * denominator)
 }
 
+/// The greatest common divisor of the number and the modulus, and the least
+/// that gives this divisor, modulo the modulus, when the number is multiplied by
+/// it. Both are positive.
+pub fn divisor_and_inverse(number: i128, modulus: i128) -> (i128, i128) {
+    assert!(number > 0 && modulus > 0, "both are positive");
+    // Modulo the modulus, these are so many times the number.
+    let (mut greater, mut smaller) = (modulus, number);
+    let (mut times_greater, mut times_smaller) = (0, 1);
+    while smaller != 0 {
+        let quotient = greater / smaller;
+        (greater, smaller) = (smaller, greater % smaller);
+        (times_greater, times_smaller) = (times_smaller, times_greater - quotient * times_smaller);
+    }
+    (greater, times_greater.rem_euclid(modulus / greater))
+}
+
 #[cfg(test)]
 mod tests {
     use super::*;
@@ -67,6 +83,37 @@ mod tests {
                 fraction.nearest(),
                 Whole::from(nearest(numerator, denominator))
             );
+        }
+    }
+
+    #[test]
+    fn divisors_and_inverses() {
+        for (number, modulus, divisor, inverse) in [
+            (3, 7, 1, 5),
+            (1, 2, 1, 1),
+            (10, 7, 1, 5),
+            (4, 6, 2, 2),
+            (6, 4, 2, 1),
+            (5, 5, 5, 0),
+            (7, 1, 1, 0),
+        ] {
+            let found = divisor_and_inverse(number, modulus);
+            assert_eq!(found, (divisor, inverse), "{number} {modulus}");
+        }
+    }
+
+    #[test]
+    fn an_inverse_times_the_number_is_the_divisor() {
+        let mut random = Random::new(3);
+        for _ in 0..20_000 {
+            // Below 2^62, so that products fit.
+            let mut some = || i128::from(random.up_to(i64::MAX / 2)) + 1;
+            let (number, modulus) = (some(), some());
+            let (divisor, inverse) = divisor_and_inverse(number, modulus);
+            assert_eq!((number % divisor, modulus % divisor), (0, 0));
+            // A common divisor that is such a sum is the greatest.
+            assert_eq!((inverse * number - divisor) % modulus, 0);
+            assert!((0..modulus / divisor).contains(&inverse));
         }
     }
 }

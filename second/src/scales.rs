@@ -105,24 +105,42 @@ const GPS_TO_TAI: i128 = 19_000_000_000;
 /// "TT = TAI + 32.184 s, that is 32,184,000,000 ticks."
 const TAI_TO_TT: i128 = 32_184_000_000;
 
+/// What a linear step gives exactly: (factor·tick + offset) / divisor.
+#[derive(Clone, Copy, Debug)]
+pub struct Line {
+    pub factor: i128,
+    pub offset: i128,
+    pub divisor: i128,
+}
+
+/// "TCG from TT and TCB from TDB are the exact inverse fractions."
+pub fn line(from: Scale, to: Scale) -> Line {
+    let (factor, offset, divisor) = match (from, to) {
+        (Scale::Gps, Scale::Tai) => (1, GPS_TO_TAI, 1),
+        (Scale::Tai, Scale::Gps) => (1, -GPS_TO_TAI, 1),
+        (Scale::Tai, Scale::Tt) => (1, TAI_TO_TT, 1),
+        (Scale::Tt, Scale::Tai) => (1, -TAI_TO_TT, 1),
+        (Scale::Tcg, Scale::Tt) => (TEN_19 - L_G, 0, TEN_19),
+        (Scale::Tt, Scale::Tcg) => (TEN_19, 0, TEN_19 - L_G),
+        (Scale::Tcb, Scale::Tdb) => (TEN_17 - L_B, -TDB_OFFSET * TEN_17, TEN_17),
+        (Scale::Tdb, Scale::Tcb) => (TEN_17, TDB_OFFSET * TEN_17, TEN_17 - L_B),
+        _ => panic!("{from:?} to {to:?} is no linear step"),
+    };
+    Line {
+        factor,
+        offset,
+        divisor,
+    }
+}
+
 /// One linear step: "the tick nearest to the exact value; an exact half goes
 /// to the greater". The TCB offset is whole, so the whole value is rounded once.
 ///
 /// Widest is TCG from TT: twice 6·10^18·10^19 and 10^19 are below 1.3·10^38,
 /// and i128 reaches 1.7·10^38. The answer is below 6.1·10^18, so i64 holds it.
 pub fn linear_step(from: Scale, to: Scale, tick: i64) -> i64 {
-    let tick = i128::from(tick);
-    let answer = match (from, to) {
-        (Scale::Gps, Scale::Tai) => tick + GPS_TO_TAI,
-        (Scale::Tai, Scale::Gps) => tick - GPS_TO_TAI,
-        (Scale::Tai, Scale::Tt) => tick + TAI_TO_TT,
-        (Scale::Tt, Scale::Tai) => tick - TAI_TO_TT,
-        (Scale::Tcg, Scale::Tt) => nearest(tick * (TEN_19 - L_G), TEN_19),
-        (Scale::Tt, Scale::Tcg) => nearest(tick * TEN_19, TEN_19 - L_G),
-        (Scale::Tcb, Scale::Tdb) => nearest(tick * (TEN_17 - L_B) - TDB_OFFSET * TEN_17, TEN_17),
-        (Scale::Tdb, Scale::Tcb) => nearest((tick + TDB_OFFSET) * TEN_17, TEN_17 - L_B),
-        _ => panic!("{from:?} to {to:?} is no linear step"),
-    };
+    let line = line(from, to);
+    let answer = nearest(line.factor * i128::from(tick) + line.offset, line.divisor);
     i64::try_from(answer).expect("a valid epoch's linear step fits 64 bits")
 }
 
@@ -132,6 +150,14 @@ pub const LINEAR_STEPS: [(Scale, Scale); 8] = [
     (Scale::Tai, Scale::Gps),
     (Scale::Tai, Scale::Tt),
     (Scale::Tt, Scale::Tai),
+    (Scale::Tcg, Scale::Tt),
+    (Scale::Tt, Scale::Tcg),
+    (Scale::Tcb, Scale::Tdb),
+    (Scale::Tdb, Scale::Tcb),
+];
+
+/// Those of them that drift, so that their exact value is seldom a whole tick.
+pub const DRIFTING_STEPS: [(Scale, Scale); 4] = [
     (Scale::Tcg, Scale::Tt),
     (Scale::Tt, Scale::Tcg),
     (Scale::Tcb, Scale::Tdb),

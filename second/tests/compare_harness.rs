@@ -19,7 +19,7 @@ const UTC: [u32; 14] = [0, 1, 4, 5, 6, 7, 8, 10, 11, 12, 13, 14, 15, 16];
 const UTC_ALONE: [u32; 5] = [0, 4, 5, 7, 8];
 
 /// Every number that each function can give to what it is asked.
-const NUMBERS: [(&str, &[u32]); 18] = [
+const NUMBERS: [(&str, &[u32]); 20] = [
     ("colliedash_judge", &[0, 10, 11, 12, 13, 14, 15, 16]),
     ("colliedash_read_table", &[0, 8, 10, 11, 12, 13, 14, 15, 16]),
     ("colliedash_write_table", &[0, 8, 13, 14, 15, 16]),
@@ -31,6 +31,7 @@ const NUMBERS: [(&str, &[u32]); 18] = [
     ("colliedash_convert_ticks", &CONVERSIONS),
     ("colliedash_convert_ticks, TT to TDB", &STEPS),
     ("colliedash_convert_ticks, TDB to TT", &STEPS),
+    ("colliedash_convert_ticks, around halves of a tick", &[0, 4]),
     ("colliedash_convert_date", &READ_AND_CONVERTED),
     ("colliedash_convert_date, the reading alone", &READINGS),
     (
@@ -43,6 +44,7 @@ const NUMBERS: [(&str, &[u32]); 18] = [
         "colliedash_batch",
         &[0, 1, 4, 6, 8, 10, 11, 12, 13, 14, 15, 16],
     ),
+    ("colliedash_batch, around halves of a tick", &[0]),
     ("colliedash_convert_utc", &UTC),
     ("colliedash_convert_utc, the reading alone", &UTC_ALONE),
     ("colliedash_write_utc", &UTC),

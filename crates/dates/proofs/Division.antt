@@ -54,6 +54,16 @@ div-at f (fin false m e) (fin false n d) a b B h k =
     ∙ round-same f false (m * up e * down d) (n * up d * down e) a b (mul-pos p (down-pos e)) B
     (cross (m * up e) (n * up d) (down e) (down d) a b (h .1) (k .1))
 
+-- equal quotients of whole numbers are rounded alike
+pub same-quotient : (a b c d : ℕ) → a ≤ 2 ^ 53 → b ≤ 2 ^ 53 → c ≤ 2 ^ 53 → d ≤ 2 ^ 53 → 0 < b → 0 < d
+    → a * d ≡ c * b
+    → div binary64 (ofInt binary64 (pos a)) (ofInt binary64 (pos b))
+    ≡ div binary64 (ofInt binary64 (pos c)) (ofInt binary64 (pos d))
+same-quotient a b c d ha hb hc hd B D e =
+    div-at binary64 (ofInt binary64 (pos a)) (ofInt binary64 (pos b)) a b B (whole-value a ha) (whole-value b hb)
+    ∙ round-same binary64 false a b c d B D e
+    ∙ sym (div-at binary64 (ofInt binary64 (pos c)) (ofInt binary64 (pos d)) c d D (whole-value c hc) (whole-value d hd))
+
 -- ---- `closest a b` is at most a half off a / b, times b
 abbrev Cmp : Ordering → ℕ → ℕ → Type 0
 Cmp Ordering·lt a b = a < b

@@ -30,13 +30,14 @@ fn since_first(tick: i64) -> u64
 }
 
 // The Julian date so many days after 2373144.5, which is half of 4,746,289. The caller's days are a
-// valid tick's.
+// valid tick's. In 86,400ths both parts of a date are divisions, which a processor can do at once;
+// a half is a product to a compiler, for which a 32-bit box would need a helper.
 fn julian_date(days: u64) -> f64
     requires { ⌜ days ≤ 140000 ⌝ }
     ensures { λ r. ⌜
         r ≡ div binary64 (ofInt binary64 (pos (2 * days + 4746289))) (ofInt binary64 (pos 2)) ⌝ }
 {
-    ((2 * days + 4_746_289) as f64) / 2.0
+    ((86_400 * days + 205_039_684_800) as f64) / 86_400.0
 }
 
 // 'the ticks since then divided by 86,400,000,000,000 as one rounded double division': less than a

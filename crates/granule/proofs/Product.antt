@@ -1,162 +1,131 @@
--- A rounded product in 64 bits: with d = 2·half and b split at d, every number on the way fits, and
--- the result is the nearest to u·b / d. It is one law for both rounded products of the recurrence,
+-- A rounded product by pieces: b is split at d, and with g·d = 2^32 the two parts are the pieces of
+-- g·b, so that u·g·b / 2^32 is u·b / d. It is one law for both rounded products of the recurrence,
 -- in the words of the code: `read` is what the machine makes of a number. Assumes nothing.
-use mathlib.Core.Path.{_≡_, _∙_}
-use Prim.Native.Nat.{ℕ, _+_, _*_, _^_, _≤_, _<_}
-use native.Mathlib.Nat.{mul-le-mul-right, le-refl}
+use mathlib.Core.Path.{_≡_, sym, _∙_, ap}
+use Prim.Native.Nat.{ℕ, _*_, _^_, _≤_, _<_}
+use native.Mathlib.Nat.{mul-le-mul-right, mul-lt-mul-of-pos-right}
 use native.Mathlib.Omega.{arith}
-use lib.Dec.{lit<}
+use lib.Dec.{T, lit<}
 use lib.IntN.{ℤ, pos, _+ℤ_, _-ℤ_, _*ℤ_, natAbs}
-use lib.Signed.{shrZ}
-use mir.Syntax.{w64}
-use mir.Val.{SFits}
+use lib.Signed.{_≤ℤ_, _<ℤ_, nonNeg, shrZ}
+use mir.Syntax.{w32, w64}
+use mir.Val.{SFits, Fits}
 use Rattle.numbers.specs.Rounding.{floorDiv, nearest}
-use Rattle.numbers.proofs.Order.{size-*, size-+}
-use Rattle.numbers.proofs.Machine.{shr-floor, read, read-is, fits-small}
-use Rattle.numbers.proofs.Rounding.{floor-rest, floor-small, nearest-split}
-use Rattle.granule.specs.Asked.{Factors}
+use Rattle.numbers.proofs.Differences.{rep₂, lin}
+use Rattle.numbers.proofs.Order.{size-*}
+use Rattle.numbers.proofs.Machine.{shr-floor, read, read-is, fits-small, floor-fits}
+use Rattle.numbers.proofs.Ring.{*-left-comm}
+use Rattle.numbers.proofs.Rounding.{floored, floor-rest, floor-small, nearest-reduced}
+use Rattle.numbers.proofs.Solver.{ring, quote, all₄}
+use Rattle.pieces.specs.Pieces.{base}
+use Rattle.pieces.proofs.Machine.{Piece, a-piece}
 
 -- ---- the numbers themselves
 abbrev high : ℤ → ℕ → ℤ
-high b half = floorDiv b (2 * half)
+high b d = floorDiv b d
 
 abbrev taken : ℤ → ℕ → ℤ
-taken b half = pos (2 * half) *ℤ high b half
+taken b d = pos d *ℤ high b d
 
-abbrev low : ℤ → ℕ → ℤ
-low b half = b -ℤ taken b half
-
-abbrev raised : ℤ → ℤ → ℕ → ℤ
-raised u b half = u *ℤ low b half +ℤ pos half
-
-abbrev fine : ℤ → ℤ → ℕ → ℤ
-fine u b half = floorDiv (raised u b half) (2 * half)
+abbrev rest : ℤ → ℕ → ℤ
+rest b d = b -ℤ taken b d
 
 -- ---- as the code makes them
 abbrev highOf : ℤ → ℕ → ℤ
-highOf b half = shrZ (read b) (2 * half)
+highOf b d = shrZ (read b) d
 
 abbrev takenOf : ℤ → ℕ → ℤ
-takenOf b half = pos (2 * half) *ℤ read (highOf b half)
+takenOf b d = pos d *ℤ read (highOf b d)
 
-abbrev lowOf : ℤ → ℕ → ℤ
-lowOf b half = read b -ℤ read (takenOf b half)
+abbrev restOf : ℤ → ℕ → ℤ
+restOf b d = read b -ℤ read (takenOf b d)
 
-abbrev coarseOf : ℤ → ℤ → ℕ → ℤ
-coarseOf u b half = read u *ℤ read (highOf b half)
+abbrev lowOf : ℤ → ℕ → ℕ → ℤ
+lowOf b d g = read (restOf b d) *ℤ pos g
 
-abbrev productOf : ℤ → ℤ → ℕ → ℤ
-productOf u b half = read u *ℤ read (lowOf b half)
+pub record SafeSplit (b : ℤ) (d g : ℕ) : Type 0 where
+  pub taken : SFits w64 (takenOf b d)
+  pub rest : SFits w64 (restOf b d)
+  pub low : SFits w64 (lowOf b d g)
+  pub cast : T (nonNeg (read (lowOf b d g))) × Fits w32 (natAbs (read (lowOf b d g)))
+  pub high : natAbs (read (highOf b d)) ≤ 2 ^ 31
+  pub is : pos (natAbs (read (lowOf b d g))) +ℤ pos base *ℤ read (highOf b d) ≡ pos g *ℤ b
 
-abbrev raisedOf : ℤ → ℤ → ℕ → ℤ
-raisedOf u b half = read (productOf u b half) +ℤ pos half
+module _
+    (b : ℤ)
+    (d g : ℕ)
+    (whole : g * d ≡ base)
+    (pg : 0 < g)
+    (l : 2 ^ 29 ≤ d)
+    (m : d ≤ 2 ^ 30)
+    (k : natAbs b ≤ 2 ^ 60)
+  where
+    high-small : natAbs (high b d) ≤ 2 ^ 31
+    high-small = floor-small b d (2 ^ 31) (omega arith) (omega (arith, mul-le-mul-right (2 ^ 31) l))
 
-abbrev resultOf : ℤ → ℤ → ℕ → ℤ
-resultOf u b half = read (coarseOf u b half) +ℤ read (shrZ (read (raisedOf u b half)) (2 * half))
+    taken-small : natAbs (taken b d) ≤ 2 ^ 61
+    taken-small = size-* (pos d) (high b d) m high-small
 
-pub record SafeProduct (u b : ℤ) (half : ℕ) : Type 0 where
-  pub taken : SFits w64 (takenOf b half)
-  pub low : SFits w64 (lowOf b half)
-  pub coarse : SFits w64 (coarseOf u b half)
-  pub product : SFits w64 (productOf u b half)
-  pub raised : SFits w64 (raisedOf u b half)
-  pub result : SFits w64 (resultOf u b half)
-  pub is : read (resultOf u b half) ≡ nearest (u *ℤ b) (2 * half)
+    rest-small : natAbs (rest b d) ≤ 2 ^ 30
+    rest-small = omega (arith, floor-rest b d (omega arith))
 
-module _ (u b : ℤ) (half : ℕ) (l : 2 ^ 28 ≤ half) (g : half ≤ 2 ^ 29) (f : Factors u b) where
-  high-small : natAbs (high b half) ≤ 2 ^ 31
-  high-small =
-      let s = f .bounded in
-      floor-small b (2 * half) (2 ^ 31) (omega arith) (omega (arith, mul-le-mul-right (2 ^ 32) l))
+    b-kept : SFits w64 b
+    b-kept = fits-small b (2 ^ 60) k (lit< tt)
 
-  taken-small : natAbs (taken b half) ≤ 2 ^ 61
-  taken-small = omega (arith, size-* (pos (2 * half)) (high b half) (le-refl (2 * half)) high-small, mul-le-mul-right (2 ^ 31) g)
+    high-kept : SFits w64 (high b d)
+    high-kept = floor-fits b d b-kept
 
-  low-small : natAbs (low b half) ≤ 2 ^ 30
-  low-small = omega (arith, floor-rest b (2 * half) (omega arith))
+    taken-kept : SFits w64 (taken b d)
+    taken-kept = fits-small (taken b d) (2 ^ 61) taken-small (lit< tt)
 
-  coarse-small : natAbs (u *ℤ high b half) ≤ 2 ^ 61
-  coarse-small = size-* u (high b half) (f .argument) high-small
+    rest-kept : SFits w64 (rest b d)
+    rest-kept = fits-small (rest b d) (2 ^ 30) rest-small (lit< tt)
 
-  product-small : natAbs (u *ℤ low b half) ≤ 2 ^ 60
-  product-small = size-* u (low b half) (f .argument) low-small
+    -- g times what d leaves of b is a piece
+    low-piece : Piece (rest b d *ℤ pos g)
+    low-piece =
+        let f = floored b d (omega arith) in
+        a-piece (rest b d *ℤ pos g) (from b (taken b d) (f .under)) (to b (taken b d) (f .above))
+      where
+        from : (b t : ℤ) → t ≤ℤ b → pos 0 ≤ℤ ((b -ℤ t) *ℤ pos g)
+        from = rep₂ _ (λ a b c e. simp lin (λ h. omega (arith, mul-le-mul-right g h)))
 
-  raised-small : natAbs (raised u b half) ≤ 2 ^ 61
-  raised-small = omega (arith, size-+ (u *ℤ low b half) (pos half) product-small (le-refl half))
+        to : (b t : ℤ) → b <ℤ (t +ℤ pos d) → ((b -ℤ t) *ℤ pos g) <ℤ pos base
+        to = rep₂ _ (λ a b c e. simp lin (λ h. omega (arith, whole, mul-lt-mul-of-pos-right h pg)))
 
-  fine-small : natAbs (fine u b half) ≤ 2 ^ 32
-  fine-small = let s = raised-small in floor-small (raised u b half) (2 * half) (2 ^ 32) (omega arith) (omega (arith, mul-le-mul-right (2 ^ 33) l))
+    high-is : read (highOf b d) ≡ high b d
+    high-is = rw (read-is b b-kept, shr-floor b d) (read-is (high b d) high-kept)
 
-  result-small : natAbs (u *ℤ high b half +ℤ fine u b half) ≤ 2 ^ 62
-  result-small = omega (arith, size-+ (u *ℤ high b half) (fine u b half) coarse-small fine-small)
+    taken-is : takenOf b d ≡ taken b d
+    taken-is = rw high-is
 
-  -- each of them fits, so that what the code makes of it is itself
-  u-kept : SFits w64 u
-  u-kept = fits-small u (2 ^ 30) (f .argument) (lit< tt)
+    rest-is : restOf b d ≡ rest b d
+    rest-is = rw (taken-is, read-is b b-kept, read-is (taken b d) taken-kept)
 
-  b-kept : SFits w64 b
-  b-kept = fits-small b (2 ^ 60) (f .bounded) (lit< tt)
+    low-is : lowOf b d g ≡ rest b d *ℤ pos g
+    low-is = rw (rest-is, read-is (rest b d) rest-kept)
 
-  high-kept : SFits w64 (high b half)
-  high-kept = fits-small (high b half) (2 ^ 31) high-small (lit< tt)
+    together : (n d g h : ℤ) → (n -ℤ d *ℤ h) *ℤ g +ℤ g *ℤ d *ℤ h ≡ g *ℤ n
+    together = all₄ _ (λ ρ. simp quote (ring ρ _ _ tt))
 
-  taken-kept : SFits w64 (taken b half)
-  taken-kept = fits-small (taken b half) (2 ^ 61) taken-small (lit< tt)
+    pub safe-split : SafeSplit b d g
+    safe-split = record {
+      taken = rw taken-is taken-kept;
+      rest = rw rest-is rest-kept;
+      low = rw low-is (low-piece .fits);
+      cast = rw (low-is, read-is (rest b d *ℤ pos g) (low-piece .fits)) (low-piece .cast);
+      high = rw high-is high-small;
+      is = rw (low-is, high-is, read-is (rest b d *ℤ pos g) (low-piece .fits), low-piece .is, ← whole) (together b (pos d) (pos g) (high b d));
+    }
+        -- the product of these pieces, as the code has it, is the one of b
 
-  low-kept : SFits w64 (low b half)
-  low-kept = fits-small (low b half) (2 ^ 30) low-small (lit< tt)
-
-  coarse-kept : SFits w64 (u *ℤ high b half)
-  coarse-kept = fits-small (u *ℤ high b half) (2 ^ 61) coarse-small (lit< tt)
-
-  product-kept : SFits w64 (u *ℤ low b half)
-  product-kept = fits-small (u *ℤ low b half) (2 ^ 60) product-small (lit< tt)
-
-  raised-kept : SFits w64 (raised u b half)
-  raised-kept = fits-small (raised u b half) (2 ^ 61) raised-small (lit< tt)
-
-  fine-kept : SFits w64 (fine u b half)
-  fine-kept = fits-small (fine u b half) (2 ^ 32) fine-small (lit< tt)
-
-  result-kept : SFits w64 (u *ℤ high b half +ℤ fine u b half)
-  result-kept = fits-small (u *ℤ high b half +ℤ fine u b half) (2 ^ 62) result-small (lit< tt)
-
-  high-is : read (highOf b half) ≡ high b half
-  high-is = rw (read-is b b-kept, shr-floor b (2 * half)) (read-is (high b half) high-kept)
-
-  taken-is : takenOf b half ≡ taken b half
-  taken-is = rw high-is
-
-  low-is : lowOf b half ≡ low b half
-  low-is = rw (taken-is, read-is b b-kept, read-is (taken b half) taken-kept)
-
-  coarse-is : coarseOf u b half ≡ u *ℤ high b half
-  coarse-is = rw (high-is, read-is u u-kept)
-
-  product-is : productOf u b half ≡ u *ℤ low b half
-  product-is = rw (low-is, read-is u u-kept, read-is (low b half) low-kept)
-
-  raised-is : raisedOf u b half ≡ raised u b half
-  raised-is = rw (product-is, read-is (u *ℤ low b half) product-kept)
-
-  result-is : resultOf u b half ≡ u *ℤ high b half +ℤ fine u b half
-  result-is =
-      rw (
-        coarse-is,
-        raised-is,
-        read-is (u *ℤ high b half) coarse-kept,
-        read-is (raised u b half) raised-kept,
-        shr-floor (raised u b half) (2 * half),
-        read-is (fine u b half) fine-kept,
-      )
-
-  pub safe-product : SafeProduct u b half
-  safe-product = record {
-    taken = rw taken-is taken-kept;
-    low = rw low-is low-kept;
-    coarse = rw coarse-is coarse-kept;
-    product = rw product-is product-kept;
-    raised = rw raised-is raised-kept;
-    result = rw result-is result-kept;
-    is = rw result-is (read-is _ result-kept ∙ nearest-split u b (high b half) half (omega arith));
-  }
+    pub rounded-is : (u r : ℤ) → SFits w64 u → SFits w64 r
+        → r ≡ nearest (read u *ℤ (pos (natAbs (read (lowOf b d g))) +ℤ pos base *ℤ read (highOf b d))) (2 ^ 32)
+        → read r ≡ nearest (u *ℤ b) d
+    rounded-is u r ku kr e =
+        read-is r kr
+        ∙ e
+        ∙ (λ i. nearest (read-is u ku i *ℤ safe-split .is i) (2 ^ 32))
+        ∙ ap (nearest (u *ℤ (pos g *ℤ b))) (sym whole)
+        ∙ ap (λ (z : ℤ). nearest z (g * d)) (*-left-comm u (pos g) b)
+        ∙ nearest-reduced (u *ℤ b) d g (omega arith) pg

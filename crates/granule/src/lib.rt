@@ -1,6 +1,7 @@
 // One granule of a table: its value at a tick in fixed point, as 01's 'The granule rule' says, and
 // the tests 14 to 16 of its coefficients. A granule's coefficients are lent as a slice, c_0 first,
 // as many as the degree plus one; a coefficient becomes `Units` where it is taken out.
+use pieces::signed::rounded_product;
 ghost use mathlib.Core.Path.{_≡_};
 ghost use Prim.Native.Nat.{_^_};
 ghost use lib.IntN.{ℤ, pos, natAbs, _+ℤ_, _-ℤ_, _*ℤ_};
@@ -27,24 +28,25 @@ fn argument(place: u64, length: u64) -> i64
     steps as i64 - 1_073_741_824
 }
 
-// 'rounded(u·b/2^29)'. The product is wider than 64 bits, so b is split at 2^29.
+// 'rounded(u·b/2^29)', in pieces: u·8·b / 2^32. 8·b may be more than 64 bits hold, so it is handed
+// on as two pieces, which are two parts of b.
 fn rounded29(u: i64, b: Units) -> Units
     requires { ⌜ Factors u (b .0) ⌝ }
     ensures { λ r. ⌜ r .0 ≡ nearest (u *ℤ b .0) (2 ^ 29) ⌝ }
 {
     let high = b.0 >> 29;
-    let low = b.0 - 536_870_912 * high;
-    Units(u * high + ((u * low + 268_435_456) >> 29))
+    let low = (b.0 - 536_870_912 * high) * 8;
+    Units(rounded_product(u, high, low as u32))
 }
 
-// 'rounded(u·b/2^30)', b split at 2^30.
+// 'rounded(u·b/2^30)', likewise: u·4·b / 2^32.
 fn rounded30(u: i64, b: Units) -> Units
     requires { ⌜ Factors u (b .0) ⌝ }
     ensures { λ r. ⌜ r .0 ≡ nearest (u *ℤ b .0) (2 ^ 30) ⌝ }
 {
     let high = b.0 >> 30;
-    let low = b.0 - 1_073_741_824 * high;
-    Units(u * high + ((u * low + 536_870_912) >> 30))
+    let low = (b.0 - 1_073_741_824 * high) * 4;
+    Units(rounded_product(u, high, low as u32))
 }
 
 // 'b_k = c_k + rounded(u·b_(k+1)/2^29) − b_(k+2)'
@@ -66,24 +68,35 @@ fn v_of(u: i64, c: Units, b1: Units, b2: Units) -> Units
 }
 
 // The value v of a granule of `length` ticks at the tick `place` ticks after its start. The caller
-// has judged the table: the bounds and test 14 are what keeps every number within 64 bits.
+// has judged the table: the bounds and test 14 are what keeps every number within 64 bits. b_n is
+// c_n, since the two above it are 0; and where c_0 is all, v is c_0. Two turns go together, so that
+// no b_k has to be moved.
 pub fn value(coefficients: &[i64], place: u64, length: u64) -> Units
     requires { ⌜ Evaluable (now coefficients) place length ⌝ }
     ensures { λ r. ⌜ r .0 ≡ valueAt (now (coefficients .entry)) place length ⌝ }
 {
+    let n = coefficients.len() - 1;
+    if n == 0 {
+        return Units(coefficients[0]);
+    }
     let u = argument(place, length);
-    let mut b1 = Units(0);
+    let mut b1 = Units(coefficients[n]);
     let mut b2 = Units(0);
-    let mut k = coefficients.len() - 1;
-    while 0 < k {
+    let mut k = n - 1;
+    while 1 < k {
         let c = Units(coefficients[k]);
-        let b = b_of(u, c, b1, b2);
-        b2 = b1;
-        b1 = b;
-        k -= 1;
+        b2 = b_of(u, c, b1, b2);
+        let next = Units(coefficients[k - 1]);
+        b1 = b_of(u, next, b2, b1);
+        k -= 2;
     }
     let c = Units(coefficients[0]);
-    v_of(u, c, b1, b2)
+    if k == 0 {
+        return v_of(u, c, b1, b2);
+    }
+    let last = Units(coefficients[1]);
+    let b = b_of(u, last, b1, b2);
+    v_of(u, c, b, b1)
 }
 
 // 'D = v/65536 rounded', in ticks: the half is taken after a shift by 15, so that nothing

@@ -2,8 +2,8 @@
 -- less what it loses, a fast clock's the slow clock's and what it gains, each counted from m
 -- periods before tick 0. Assumes nothing.
 use mathlib.Core.Path.{_≡_, ap}
-use Prim.Native.Nat.{ℕ, _+_, _*_, _/_, _%_, _≤_, _<_}
-use native.Mathlib.Nat.{div-add-mod', div-le-of-le-mul, div-lt-iff-lt-mul, mod-lt, mul-comm, mul-le-mul-right}
+use Prim.Native.Nat.{ℕ, _+_, _*_, _/_, _≤_, _<_}
+use native.Mathlib.Nat.{div-add-mod', mod-lt, mul-comm}
 use native.Mathlib.Omega.{arith}
 use lib.IntN.{ℤ, pos, _+ℤ_, _-ℤ_, _*ℤ_}
 use lib.Signed.{_≤ℤ_, _<ℤ_}
@@ -48,11 +48,3 @@ module _ (D L E m h : ℕ) (whole : E + L ≡ D) where
       let bounds = quotient (b * L + h) E q (omega arith) f in
       nearest-is (pos D *ℤ t) (t +ℤ pos q -ℤ pos (m * L)) E (omega arith)
       (record { under = fast-under b q t e (bounds .0) k; above = fast-above b q t e (bounds .1) k })
-
--- ---- a product in two digits: with r < A·B, the high digit of r·L, (r / A·L + (r % A·L) / A) / B,
--- is at most L
-pub high-digit : (A B L r : ℕ) → 0 < A → r < B * A → (r / A * L + r % A * L / A) / B ≤ L
-high-digit A B L r h k =
-    let top : r / A < B = div-lt-iff-lt-mul h .1 k in
-    let low : r % A * L / A ≤ L = div-le-of-le-mul A (omega (arith, mul-le-mul-right L (mod-lt r h))) in
-    div-le-of-le-mul B (omega (arith, mul-le-mul-right L top))

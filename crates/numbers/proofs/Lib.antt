@@ -24,12 +24,13 @@
 -- reduced: `nearest-reduced`; equal ones are rounded alike: `nearest-same`. At most a half off:
 -- `within-half`; less than a half is none: `nearest-none`. Sizes: `floor-small`, `floor-rest`,
 -- `nearest-small`. What moves by at most a divisor is rounded to at most one apart:
--- `nearest-moves`. For kernels: `nearest-cut` and `nearest-twice` (a divisor by two shifts),
--- `floor-split` and `nearest-split` (a product split at the divisor).
+-- `nearest-moves`. For kernels: `nearest-even` (half of the divisor is added before one floor),
+-- `nearest-cut` and `nearest-twice` (a divisor by two shifts), `floor-split` (a product split at
+-- the divisor).
 --
 -- An `i64` of the code: `Machine` (that a number fits, what a test leaves, tests that say the same,
--- >> as a floor, −1 − z of a negative z). The bits of a number that fits read back as it:
--- `read-is`.
+-- >> as a floor, x·y + z, −1 − z of a negative z). The bits of a number that fits read back as it:
+-- `read-is`. The elements of an array: `Arrays`.
 --
 -- The lowest place at which a test fails, a test of every place, a list by its places: `Places`.
 -- Two tests in one: `Flags`. A list of tests, and the lowest rank among tests of the same places:
@@ -45,6 +46,7 @@ pub mod Ring
 pub mod Order
 pub mod Rounding
 pub mod Machine
+pub mod Arrays
 pub mod Solver
 pub mod Chebyshev
 pub mod Slope

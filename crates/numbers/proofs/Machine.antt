@@ -5,11 +5,11 @@ use mathlib.Core.Path.{_≡_, refl, sym, ap, subst, _∙_}
 use mathlib.Core.Bool.{Bool, true, false, not, _&&_}
 use mathlib.Core.Logic.{⊎-elim}
 use Prim.Native.Nat.{ℕ, suc, _+_, _-_, _*_, _%_, _^_, _<_, _≤_, zero-le}
-use native.Mathlib.Nat.{zero-lt-suc, le-trans, le-of-eq, add-mul, mul-comm, mul-one, mul-pos, mul-le-mul-left, mod-eq-of-lt}
+use native.Mathlib.Nat.{zero-lt-suc, le-trans, le-of-eq, div-le-self, add-mul, mul-comm, mul-one, mul-pos, mul-le-mul-left, mod-eq-of-lt}
 use native.Mathlib.Omega.{arith}
 use borrow.Author.Tests.{eq-eqb, ne-eqb, eqb-true, eqb-false}
 use lib.Dec.{T, eqb, leb, leb→le, le→leb, lt→ltb, ltb→lt}
-use lib.IntN.{ℤ, pos, negsuc, negℤ, natAbs, _-ℤ_, _*ℤ_, +ℤ-idl}
+use lib.IntN.{ℤ, pos, negsuc, negℤ, natAbs, _+ℤ_, _-ℤ_, _*ℤ_, +ℤ-idl}
 use lib.Pow.{pow-pos}
 use lib.Signed.{_≤ℤ_, _<ℤ_, ltZ, leZ, ltZ-no, shrZ, nonNeg}
 use Rattle.numbers.proofs.Differences.{rep₂, lin, rep}
@@ -95,6 +95,26 @@ fits-under (negsuc n) f = record { lt = tt }
 pub fits-range : (z : ℤ) → negsuc 9223372036854775807 ≤ℤ z → z <ℤ pos (2 ^ 63) → SFits w64 z
 fits-range (pos n) l g = record { sfits = ltb→lt n (2 ^ 63) (g .lt) }
 fits-range (negsuc n) l g = let h = leb→le n 9223372036854775807 (l .le) in record { sfits = omega arith }
+
+-- so a floor of what fits does too
+pub floor-fits : (z : ℤ) (d : ℕ) → SFits w64 z → SFits w64 (floorDiv z d)
+unfolding floorDiv
+floor-fits (pos n) d f = let h = f .sfits in record { sfits = omega (arith, div-le-self n d) }
+floor-fits (negsuc n) d f = let h = f .sfits in record { sfits = omega (arith, div-le-self n d) }
+
+-- ---- x·y + z, as the code makes it
+pub record Sum (x y z : ℤ) : Type 0 where
+  pub product-fits : SFits w64 (read x *ℤ read y)
+  pub sum-fits : SFits w64 (read (read x *ℤ read y) +ℤ read z)
+  pub is : read (read (read x *ℤ read y) +ℤ read z) ≡ x *ℤ y +ℤ z
+
+pub summed : (x y z : ℤ) → SFits w64 x → SFits w64 y → SFits w64 z → SFits w64 (x *ℤ y) → SFits w64 (x *ℤ y +ℤ z)
+    → Sum x y z
+summed x y z kx ky kz p s = record {
+  product-fits = rw (read-is x kx, read-is y ky) p;
+  sum-fits = rw (read-is x kx, read-is y ky, read-is z kz, read-is (x *ℤ y) p) s;
+  is = rw (read-is x kx, read-is y ky, read-is z kz, read-is (x *ℤ y) p) (read-is (x *ℤ y +ℤ z) s);
+}
 
 -- ---- two numbers of the same bits are the same
 pub same-bits : (x y : ℤ) → SFits w64 x → SFits w64 y → ofZ w64 x ≡ ofZ w64 y → x ≡ y

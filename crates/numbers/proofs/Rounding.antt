@@ -337,17 +337,7 @@ nearest-of-floor z d half h k =
 pub nearest-twice : (z : ℤ) (d : ℕ) → 0 < d → nearest z (2 * d) ≡ floorDiv (floorDiv z d +ℤ pos 1) 2
 nearest-twice z d h = ap (nearest z) (mul-comm 2 d) ∙ nearest-cut z d 1 h (lit< tt)
 
--- ---- a product u·b with b split at d: where b = d·h + l, its floor is u·h + ⌊u·l / d⌋, and with d
--- = 2·half its nearest is u·h + ⌊(u·l + half) / d⌋
-split-under : (half : ℕ) (ul q uh : ℤ) → (pos (2 * half) *ℤ q) ≤ℤ (ul +ℤ pos half)
-    → (pos 2 *ℤ (pos (2 * half) *ℤ (uh +ℤ q))) ≤ℤ (pos 2 *ℤ (pos (2 * half) *ℤ uh +ℤ ul) +ℤ pos (2 * half))
-split-under half = rep₃ _ (λ a b c d e f. simp lin (omega arith))
-
-split-above : (half : ℕ) (ul q uh : ℤ) → (ul +ℤ pos half) <ℤ (pos (2 * half) *ℤ q +ℤ pos (2 * half))
-    → (pos 2 *ℤ (pos (2 * half) *ℤ uh +ℤ ul) +ℤ pos (2 * half))
-    <ℤ (pos 2 *ℤ (pos (2 * half) *ℤ (uh +ℤ q)) +ℤ pos 2 *ℤ pos (2 * half))
-split-above half = rep₃ _ (λ a b c d e f. simp lin (omega arith))
-
+-- ---- a product u·b with b split at d: where b = d·h + l, its floor is u·h + ⌊u·l / d⌋
 split : (d u b h : ℤ) → d *ℤ (u *ℤ h) +ℤ u *ℤ (b -ℤ d *ℤ h) ≡ u *ℤ b
 split = rep₄ _ (λ a b c d e f g h. simp lin (omega arith))
 
@@ -356,13 +346,3 @@ floor-split u b h d k =
     +ℤ-comm (u *ℤ h) (floorDiv (u *ℤ (b -ℤ pos d *ℤ h)) d)
     ∙ sym (floor-plus (u *ℤ (b -ℤ pos d *ℤ h)) (u *ℤ h) d k)
     ∙ ap (λ (x : ℤ). floorDiv x d) (+ℤ-comm (u *ℤ (b -ℤ pos d *ℤ h)) (pos d *ℤ (u *ℤ h)) ∙ split (pos d) u b h)
-
-pub nearest-split : (u b h : ℤ) (half : ℕ) → 0 < half
-    → u *ℤ h +ℤ floorDiv (u *ℤ (b -ℤ pos (2 * half) *ℤ h) +ℤ pos half) (2 * half) ≡ nearest (u *ℤ b) (2 * half)
-nearest-split u b h half k =
-    let d = 2 * half in
-    let ul = u *ℤ (b -ℤ pos d *ℤ h) in
-    let q = floorDiv (ul +ℤ pos half) d in
-    let f = floored (ul +ℤ pos half) d (omega arith) in
-    sym (nearest-is (u *ℤ b) (u *ℤ h +ℤ q) d (omega arith)
-    (rw (← split (pos d) u b h) (record { under = split-under half ul q (u *ℤ h) (f .under); above = split-above half ul q (u *ℤ h) (f .above) })))

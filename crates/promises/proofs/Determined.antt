@@ -10,6 +10,7 @@ use lib.IntN.{ℤ}
 use lib.ListN.{take-append-drop}
 use Rattle.granule.specs.declared.Units.{Units}
 use Rattle.image.specs.Image.{howMany}
+use Rattle.pieces.proofs as pieces
 use Rattle.scales.proofs as scales
 use Rattle.linear.proofs as linear
 use Rattle.utc.proofs as utc
@@ -73,6 +74,13 @@ both is = told (λ κs a r s p. ap₂ (λ result left. (result, left)) (is κs a
 units : {K : Type 0} {A S : K → Type 0} {f : (κs : K) → A κs → ℤ}
     → One {A = A} {R = λ κs. Units} {S = S} (λ κs a r s. r .0 ≡ f κs a)
 units = told (λ κs a r s p. ap (λ number. record { 0 = number }) p)
+
+-- ---- pieces
+pub share : One pieces.share.share.Reads.Learnt
+share = equation
+
+pub rounded-product : One pieces.signed.rounded_product.Reads.Learnt
+rounded-product = equation
 
 -- ---- scales
 pub next-step : One scales.path.next_step.Reads.Learnt

@@ -17,7 +17,8 @@ pub fn random_tick(random: &mut Random) -> i64 {
     }
 }
 
-fn with_neighbours(ticks: &[i64], distance: i64) -> Vec<i64> {
+/// Each with those at most so far away.
+pub(super) fn with_neighbours(ticks: &[i64], distance: i64) -> Vec<i64> {
     ticks
         .iter()
         .flat_map(|tick| (-distance..=distance).filter_map(|near| tick.checked_add(near)))
