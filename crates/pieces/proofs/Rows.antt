@@ -2,16 +2,21 @@
 -- nothing.
 use mathlib.Core.Bool.{Bool, true, _&&_}
 use mathlib.Core.List.{List, [], _∷_}
-use mathlib.Core.Path.{_≡_, _∙_, ap, subst}
-use Prim.Native.Nat.{ℕ, zero, suc, _+_, _*_, _-_, _/_, _≤_}
+use mathlib.Core.Path.{_≡_, sym, _∙_, ap, subst}
+use Prim.Native.Nat.{ℕ, zero, suc, _+_, _*_, _-_, _/_, _^_, _≤_}
 use native.Mathlib.Nat.{mul-le-mul-right}
 use native.Mathlib.Omega.{arith}
 use lib.Dec.{T, leb, leb→le}
 use lib.ListN.{getD}
+use lib.Pow.{pow-add}
 use mir.Facts.{and-yes}
 use Rattle.pieces.specs.declared.share.Row.{Row}
 use Rattle.pieces.specs.Rows.{factor, unit, halfUnit, shareOf}
 use Rattle.pieces.proofs.Exact.{exact}
+
+-- a power that stands above two pieces
+pub above-64 : (k by : ℕ) → 2 ^ 64 * 2 ^ (k + by) ≡ 2 ^ (64 + k + by)
+above-64 k by = sym (pow-add 2 64 (k + by)) ∙ ap (λ (n : ℕ). 2 ^ n) (omega arith)
 
 abbrev every : List Bool → Bool
 every [] = true

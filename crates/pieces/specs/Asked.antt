@@ -1,6 +1,6 @@
 -- What the inner functions ask of their callers, so that no number is wider than 64 bits.
 use mathlib.Core.List.{List}
-use Prim.Native.Nat.{ℕ, _^_, _<_, _≤_}
+use Prim.Native.Nat.{ℕ, _+_, _^_, _<_, _≤_}
 use lib.IntN.{ℤ, natAbs}
 use Rattle.pieces.specs.Pieces.{base, signed}
 use Rattle.pieces.specs.declared.share.Row.{Row}
@@ -29,7 +29,9 @@ pub record Shiftable (p : List ℕ) (by : ℕ) : Type 0 where
   pub small : natAbs (signed p) < 2 ^ 95
   pub few : by ≤ 32
 
--- an M of which no product with 64 bits is wider than that, and its half
+-- an M of which no product with 64 bits is wider than three pieces, and whose low product has room
+-- for half of 2^s
 pub record Narrow (row : Row) : Type 0 where
   pub narrow : row .m1 < 2 ^ 30
+  pub room : row .m0 + 2 ^ (31 + row .by) < 2 ^ 64
   pub few : row .by ≤ 32

@@ -3,8 +3,8 @@
 // piece first, is passed and returned by value through multiply, add and shift. `share` is the
 // rounded product of the linear steps, `signed` that of the granule.
 //
-// Both are rounded to the nearest by a half of the shift's unit that goes in with the multiply,
-// where there is room for it; the shift then rounds down.
+// Both are rounded to the nearest by a half of the shift's unit that goes in before the product is
+// whole, where there is room for it; the shift then rounds down.
 mod product;
 pub mod share;
 mod shift;

@@ -22,7 +22,7 @@ pub fn multiply(x: u64, y: u64, addend: u64) -> [u32; 4]
     let y0 = y % 4_294_967_296;
     let y1 = y / 4_294_967_296;
     let low = column(x0, y0, addend % 4_294_967_296, 0);
-    let mid = column(x1, y0, low / 4_294_967_296, addend / 4_294_967_296);
+    let mid = column(x1, y0, addend / 4_294_967_296, low / 4_294_967_296);
     let side = column(x0, y1, mid % 4_294_967_296, 0);
     let high = column(x1, y1, mid / 4_294_967_296, side / 4_294_967_296);
     [
@@ -57,9 +57,9 @@ pub fn add(p: [u32; 4], q: [u32; 4]) -> [u32; 4]
     ]
 }
 
-// p / 2^64, rounded down: the upper two pieces come down.
-pub fn upper(p: [u32; 4]) -> [u32; 4]
-    ensures { λ r. ⌜ value r ≡ value p / 2 ^ 64 ⌝ }
+// p / 2^64, rounded down: the upper two pieces.
+pub fn upper(p: [u32; 4]) -> u64
+    ensures { λ r. ⌜ r ≡ value p / 2 ^ 64 ⌝ }
 {
-    [p[2], p[3], 0, 0]
+    p[3] as u64 * 4_294_967_296 + p[2] as u64
 }

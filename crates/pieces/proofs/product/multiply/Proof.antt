@@ -1,22 +1,14 @@
--- `pieces::product::multiply` meets its contract: each column hands on its carry, and the four are
--- the product by pieces. Assumes nothing.
+-- `pieces::product::multiply` meets its contract: its four columns are the two rows of a product of
+-- two pieces by two. Assumes nothing.
 use borrow.Author.Needs.{needs}
-use mathlib.Core.Path.{_≡_, _∙_}
+use mathlib.Core.Path.{_∙_}
 use mathlib.Core.List.{[], _∷_}
-use Prim.Native.Nat.{ℕ, _+_, _*_, _/_, _%_}
-use native.Mathlib.Nat.{div-add-mod'}
-use native.Mathlib.Omega.{arith}
-use Rattle.pieces.specs.Pieces.{base, value}
+use Prim.Native.Nat.{_+_, _*_, _/_, _%_}
+use lib.Dec.{lit≤}
+use Rattle.pieces.specs.Pieces.{base}
+use Rattle.pieces.proofs.Values.{two-pieces, rowFrom, productOf, product-is}
 use Rattle.pieces.proofs.product.multiply.Statement.{statement}
 use Rattle.pieces.proofs.product.multiply.Tie as tie
-
-columns : (x₀ x₁ y₀ y₁ a₀ a₁ low mid side high : ℕ)
-    → low ≡ x₀ * y₀ + a₀ + 0 → mid ≡ x₁ * y₀ + low / base + a₁ → side ≡ x₀ * y₁ + mid % base + 0
-    → high ≡ x₁ * y₁ + mid / base + side / base
-    → value (low % base ∷ side % base ∷ high % base ∷ high / base ∷ [])
-    ≡ (x₁ * base + x₀) * (y₁ * base + y₀) + (a₁ * base + a₀)
-unfolding value
-columns x₀ x₁ y₀ y₁ a₀ a₁ low mid side high p q r s = omega arith
 
 column-requires : tie.Need-column-requires
 column-requires c κs = search needs
@@ -43,13 +35,18 @@ cast-t19 : tie.Need-cast-t19
 cast-t19 c = search needs
 
 returns : tie.Need-returns
+unfolding rowFrom productOf
 returns c =
-    let x = c .before .before .before .before .args .x in
-    let y = c .before .before .before .before .args .y in
-    let add = c .before .before .before .before .args .addend in
-    columns (x % base) (x / base) (y % base) (y / base) (add % base) (add / base) _ _ _ _
-    (c .before .before .before .column .ensures) (c .before .before .column2 .ensures) (c .before .column3 .ensures) (c .column4 .ensures)
-    ∙ (λ i. div-add-mod' x base i * div-add-mod' y base i + div-add-mod' add base i)
+    let third = c .before in
+    let second = third .before in
+    let first = second .before in
+    let a = first .before .args in
+    let x = a .x in
+    let y = a .y in
+    let more = a .addend in
+    rw (c .column4 .ensures, third .column3 .ensures, second .column2 .ensures, first .column .ensures)
+    (product-is 2 (x % base ∷ x / base ∷ []) (y % base ∷ y / base ∷ []) (more % base ∷ more / base ∷ []) (lit≤ tt) (lit≤ tt)
+    ∙ (λ i. two-pieces x i * two-pieces y i + two-pieces more i))
 
 pub multiply-spec : {M : Type 1} → statement M
 multiply-spec =
