@@ -29,8 +29,8 @@ pub record Shiftable (p : List ℕ) (by : ℕ) : Type 0 where
   pub small : natAbs (signed p) < 2 ^ 95
   pub few : by ≤ 32
 
--- an M of which no product with 64 bits is wider than three pieces, and whose low product has room
--- for half of 2^s
+-- an M whose high product, of m1 and 64 bits, is no wider than three pieces, and whose low one has
+-- room for half of 2^s
 pub record Narrow (row : Row) : Type 0 where
   pub narrow : row .m1 < 2 ^ 30
   pub room : row .m0 + 2 ^ (31 + row .by) < 2 ^ 64
