@@ -11,7 +11,7 @@ use desk::asked::{Asked, asked_of};
 use entries::batched::Batched;
 use filling::batch_over;
 use image::table::Table;
-use opened::{how_many, room, take};
+use opened::{how_many, taken};
 use scales::scale::{Purpose, Scale};
 use walk::kept::Kept;
 
@@ -28,8 +28,7 @@ fn batch_taken(
     ensures { FilledTaken from to ticks.now answers.old
         answers.new bytes.now table result }
 {
-    let mut coefficients = room();
-    take(bytes, table, &mut coefficients);
+    let coefficients = taken(bytes, table);
     let many = how_many(table);
     batch_over(
         from,

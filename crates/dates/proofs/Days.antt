@@ -4,7 +4,8 @@ use mathlib.Core.Path.{◌≡◌, ap}
 use Prim.Native.Nat.{ℕ, ◌+◌, ◌*◌, ◌/◌, ◌%◌, ◌^◌, ◌≤◌}
 use native.Mathlib.Nat.{div-add-mod'}
 use native.Mathlib.Omega.{arith}
-use lib.Dec.{lit≤}
+use lib.Dec.{T, le→leb, lit≤}
+use lib.Ieee.{binary64, in_float}
 use lib.IntN.{ℤ, pos, nat_abs, ◌+ℤ◌, ◌-ℤ◌, ◌*ℤ◌}
 use lib.Signed.{◌≤ℤ◌, pos-nat_abs, yes_non_neg}
 use Rattle.numbers.specs.Rounding.{floor_div}
@@ -60,3 +61,8 @@ module _ (tick : ℤ) (since : ℕ) (s : Since tick since) where
     where
       go : (n : ℕ) → n ≤ 12048000032184000000 → n / 86400000000000 ≤ 140000
       go n h = omega arith
+
+-- a whole number up to 2^53 is cast exactly
+pub castable : (n : ℕ) → n ≤ 2 ^ 53 → T (in_float binary64 (pos n))
+unfolding in_float
+castable n h = le→leb n (2 ^ 53) h

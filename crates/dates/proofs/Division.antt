@@ -17,9 +17,14 @@ use lib.Ieee.Exact.{HasValue, round_exact}
 use lib.Ieee.Nearest.{closest}
 use lib.Ieee.Order.{drop, kept}
 use lib.Ieee.Scale.{round_same, round_val, grid}
-use Rattle.numbers.proofs.Doubles.{whole_value}
+use lib.Ieee.Back.{round_whole}
 use Rattle.dates.specs.Ticks.{day_ticks, ticks_rounded}
 use Rattle.dates.proofs.Values.{nearest_sized, ticks_of}
+
+-- ---- a whole number is cast exactly
+whole_value : (n : ℕ) → n ≤ 2 ^ 53 → HasValue (of_int binary64 (pos n)) false n 1
+unfolding of_int
+whole_value n h = round_whole binary64 false n h
 
 -- ---- x / y, for whole numbers a and b: one rounding of a / b
 some : (n u b d : ℕ) → 0 < b → 0 < d → n * u * 1 ≡ b * d → 0 < n * u

@@ -1,7 +1,5 @@
-// A double by its bits: taken apart, and made of a whole number.
-ghost use Rattle.std.specs.Prelude.{◌≡◌, ◌^◌, ◌<◌, T, pos};
-ghost use Rattle.std.specs.Float.{binary64};
-ghost use Rattle.std.specs.Float.Ieee.{of_int};
+// A double taken apart by its bits.
+ghost use Rattle.std.specs.Prelude.{T};
 ghost use Rattle.std.specs.Float.Ieee.Scale.{finite};
 ghost use Rattle.dates.specs.Inner.{Apart};
 
@@ -31,14 +29,4 @@ pub fn take_apart(x: f64) -> Parts
         digits: digits as i64,
         exponent,
     }
-}
-
-// A whole number as a double, exactly: the double 2^52 + it has it for its last digits. The numbers
-// of a date are less than 2^52. No cast, for which x86-64 has an instruction that waits for what
-// its register held before: so the two parts of a date are packed operations.
-pub fn double_of(whole: u64) -> f64
-    requires { whole < 2 ^ 52 }
-    ensures { result ≡ of_int binary64 (pos whole) }
-{
-    f64::from_bits(0x4330_0000_0000_0000 + whole) - 4_503_599_627_370_496.0
 }

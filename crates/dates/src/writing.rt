@@ -7,7 +7,6 @@ ghost use Rattle.dates.specs.Ticks.{day_ticks};
 ghost use Rattle.dates.specs.Written.{written_of};
 ghost use Rattle.dates.specs.Inner.{Since};
 
-use crate::double::double_of;
 use crate::reading::Date;
 use scales::refusal::Refusal;
 use scales::tick::valid;
@@ -38,16 +37,16 @@ fn julian_date(days: u64) -> f64
     requires { days ≤ 140000 }
     ensures { result ≡ div binary64 (of_int binary64 (pos (2 * days + 4746289))) (of_int binary64 (pos 2)) }
 {
-    double_of(86_400 * days + 205_039_684_800) / 86_400.0
+    ((86_400 * days + 205_039_684_800) as f64) / 86_400.0
 }
 
 // 'the ticks since then divided by 86,400,000,000,000 as one rounded double division': less than a
-// day's ticks are a double exactly.
+// day's ticks are cast exactly.
 fn part_of_day(ticks: u64) -> f64
     requires { ticks < day_ticks }
     ensures { result ≡ div binary64 (of_int binary64 (pos ticks)) (of_int binary64 (pos day_ticks)) }
 {
-    double_of(ticks) / 86_400_000_000_000.0
+    (ticks as f64) / 86_400_000_000_000.0
 }
 
 // Writes a tick as a date: the last Julian date ending in .5 not after it, and the part of a day

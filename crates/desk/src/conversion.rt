@@ -14,7 +14,7 @@ use blocks::answer::Judged;
 use blocks::judging::judge;
 use dates::reading::{Reading, purpose_of, ranged, tick_of};
 use image::table::Table;
-use opened::{how_many, room, take};
+use opened::{how_many, taken};
 use scales::answer::{Answer, Epoch, Read};
 use scales::path::is_one_scale;
 use scales::refusal::Refusal;
@@ -38,8 +38,7 @@ fn taken_over(from: Scale, to: Scale, read: Read, bytes: &[u8], table: Table) ->
     requires { Opened bytes.now table }
     ensures { result ≡ taken_over from to read bytes.now table }
 {
-    let mut coefficients = room();
-    take(bytes, table, &mut coefficients);
+    let coefficients = taken(bytes, table);
     let many = how_many(table);
     between(from, to, read, Kept::Table(table), &coefficients[..many])
 }

@@ -1,6 +1,6 @@
 -- Why asked + D closes in on the earliest tick. Its TDB is the asked or one more, so the place that
 -- a delay points to is as far off as the delay is, and one. D moves by at most 3 ticks in 65536, so
--- from 2^29 and one, which no guess is off, three turns lead to one tick. Assumes nothing.
+-- from 2^28, which no delay passes, two turns lead to one tick. Assumes nothing.
 use mathlib.Core.Path.{◌≡◌, refl}
 use mathlib.Core.Logic.{⊎_elim}
 use mathlib.Core.List.{List}
@@ -10,12 +10,12 @@ use native.Mathlib.Omega.{arith}
 use lib.Dec.{lit<}
 use lib.IntN.{ℤ, pos, negsuc, ◌+ℤ◌, ◌-ℤ◌, nat_abs}
 use lib.Signed.{◌≤ℤ◌, ◌<ℤ◌}
-use Rattle.numbers.proofs.Differences.{rep, rep₂, rep₃, rep₄, lin}
+use Rattle.numbers.proofs.Differences.{rep, rep₃, rep₄, lin}
 use Rattle.numbers.proofs.Order.{pos_le, le_pos, le_or_lt}
 use Rattle.image.specs.declared.table.Table.{Table}
 use Rattle.ephemeris.specs.Table.{S, last_place, table_delay, tdb_at, earliest_place}
 use Rattle.ephemeris.specs.Accepted.{Accepted}
-use Rattle.ephemeris.specs.Asked.{most_ahead, held_inside, ThisOrBefore, FromHere}
+use Rattle.ephemeris.specs.Asked.{held_inside, ThisOrBefore, FromHere}
 use Rattle.ephemeris.proofs.Granules.{delay_bounded}
 use Rattle.ephemeris.proofs.Moves.{delay_moves}
 use Rattle.ephemeris.proofs.Ticks.{tdb_at_place}
@@ -46,15 +46,10 @@ unfolding held_inside
 held_between (pos k) n l h = omega (arith, pos_le k n h)
 held_between (negsuc k) n l h = absurd l.le
 
-pub held_fixed : (z : ℤ) (n i : ℕ) → held_inside z n ≡ i → i < n → z ≤ℤ pos i
+held_fixed : (z : ℤ) (n i : ℕ) → held_inside z n ≡ i → i < n → z ≤ℤ pos i
 unfolding held_inside
 held_fixed (pos k) n i e l = le_pos k i (omega arith)
 held_fixed (negsuc k) n i e l = record { le = tt }
-
-pub held_above : (z : ℤ) (n i : ℕ) → suc i ≡ held_inside z n → pos (suc i) ≤ℤ z
-unfolding held_inside
-held_above (pos k) n i e = le_pos (suc i) k (omega arith)
-held_above (negsuc k) n i e = let none : ⊥ = omega arith in absurd none
 
 -- ---- what TDB says of asked + D − S, over plain numbers: i the place, D its delay, and d another
 from_over : (i k : ℕ) (s asked D d : ℤ) → nat_abs (d -ℤ D) ≤ k → asked ≤ℤ ((s +ℤ pos i) -ℤ D)
@@ -65,7 +60,7 @@ from_under : (i k : ℕ) (s asked D d : ℤ) → nat_abs (d -ℤ D) ≤ k → ((
     → pos i ≤ℤ ((asked +ℤ d -ℤ s) +ℤ pos (k + 1))
 from_under i k = rep₄ _ (λ a b c d e f g h. simp lin (omega arith))
 
-pub to_reached : (i : ℕ) (s asked d : ℤ) → (asked +ℤ d -ℤ s) ≤ℤ pos i → asked ≤ℤ ((s +ℤ pos i) -ℤ d)
+to_reached : (i : ℕ) (s asked d : ℤ) → (asked +ℤ d -ℤ s) ≤ℤ pos i → asked ≤ℤ ((s +ℤ pos i) -ℤ d)
 to_reached i = rep₃ _ (λ a b c d e f. simp lin (omega arith))
 
 one_more : (x y asked : ℤ) → x <ℤ asked → y ≤ℤ (x +ℤ pos 2) → y ≤ℤ (asked +ℤ pos 1)
@@ -79,23 +74,21 @@ pub record NearEarliest (T : Table) (cs : List ℤ) (asked : ℤ) (i r : ℕ) : 
 
 -- the distance after each turn
 pub reach_after : ℕ → ℕ
-reach_after zero = 2 ^ 29 + 1
-reach_after (suc zero) = 24577
-reach_after (suc (suc zero)) = 2
-reach_after (suc (suc (suc k))) = 1
+reach_after zero = 2 ^ 28
+reach_after (suc zero) = 12289
+reach_after (suc (suc k)) = 1
 
 less : (t : ℕ) → 3 * (reach_after t + 1) + 68608 < 65536 * (reach_after (suc t) + 1)
 unfolding reach_after
 less zero = lit< tt
 less (suc zero) = lit< tt
-less (suc (suc zero)) = lit< tt
-less (suc (suc (suc k))) = lit< tt
+less (suc (suc k)) = lit< tt
 
-reach_first : reach_after 0 ≡ 2 ^ 29 + 1
+reach_first : reach_after 0 ≡ 2 ^ 28
 unfolding reach_after
 reach_first = refl
 
-reach_last : reach_after 3 ≡ 1
+reach_last : reach_after 2 ≡ 1
 unfolding reach_after
 reach_last = refl
 
@@ -127,15 +120,14 @@ module _ (T : Table) (cs : List ℤ) (A : Accepted T cs) (asked : ℤ) where
         (le_or_lt (earliest_place T cs asked) 0);
   }
 
-  -- at first D is taken as the guess
-  pub near_first : (guess : ℤ) → nat_abs guess ≤ most_ahead
-      → NearEarliest T cs asked (held_inside (asked +ℤ guess -ℤ S T) (last_place T)) (reach_after 0)
-  near_first guess little =
-      rw reach_first (pointed_near guess (2 ^ 29 + 1) (differ guess (table_delay T cs (earliest_place T cs asked)) little
-      (delay_bounded T cs A (earliest_place T cs asked) (earliest_inside T cs asked))))
+  -- at first D is taken as 0
+  pub near_first : NearEarliest T cs asked (held_inside (asked +ℤ pos 0 -ℤ S T) (last_place T)) (reach_after 0)
+  near_first =
+      rw reach_first (pointed_near (pos 0) (2 ^ 28)
+      (negated (2 ^ 28) (table_delay T cs (earliest_place T cs asked)) (delay_bounded T cs A (earliest_place T cs asked) (earliest_inside T cs asked))))
     where
-      differ : (x y : ℤ) → nat_abs x ≤ most_ahead → nat_abs y ≤ 2 ^ 28 → nat_abs (x -ℤ y) ≤ 2 ^ 29 + 1
-      differ = rep₂ _ (λ a b c d. simp lin (omega arith))
+      negated : (n : ℕ) (x : ℤ) → nat_abs x ≤ n → nat_abs (pos 0 -ℤ x) ≤ n
+      negated n = rep _ (λ a b. simp lin (omega arith))
 
   closer : (i r r' : ℕ) → 3 * (r + 1) + 68608 < 65536 * (r' + 1) → NearEarliest T cs asked i r
       → NearEarliest T cs asked (held_inside (asked +ℤ table_delay T cs i -ℤ S T) (last_place T)) r'
@@ -178,5 +170,5 @@ module _ (T : Table) (cs : List ℤ) (A : Accepted T cs) (asked : ℤ) where
           (le_or_lt (last_place T) i)
 
   -- ---- and after the last turn it is at most one before, or two after
-  pub near_last : (i : ℕ) → NearEarliest T cs asked i (reach_after 3) → FromHere T cs asked (i - 1)
+  pub near_last : (i : ℕ) → NearEarliest T cs asked i (reach_after 2) → FromHere T cs asked (i - 1)
   near_last i n = record { accepted = A; from = omega (arith, rw reach_last at n.over); to = omega (arith, rw reach_last at n.under) }

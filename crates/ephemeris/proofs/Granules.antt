@@ -1,14 +1,14 @@
 -- The granules of an accepted table: which one a tick belongs to, where its coefficients stand in
 -- the list, that it has passed the tests, and what the laws of a granule say of D at a tick of the
 -- table: its size, and its distance from the exact sum. Assumes nothing.
-use mathlib.Core.Path.{◌≡◌, refl, sym, ◌∙◌}
+use mathlib.Core.Path.{◌≡◌, sym, ◌∙◌}
 use mathlib.Core.List.{List}
 use Prim.Native.Nat.{ℕ, suc, ◌+◌, ◌*◌, ◌-◌, ◌^◌, ◌≤◌, ◌<◌}
 use native.Mathlib.Nat.{mul-le-mul_right}
 use native.Mathlib.Omega.{arith}
 use lib.ListN.{length, length-take, length-drop}
 use lib.IntN.{ℤ, pos, ◌-ℤ◌, ◌*ℤ◌, nat_abs}
-use Rattle.granule.specs.Rule.{units_in_tick, delay_of, delay_at}
+use Rattle.granule.specs.Rule.{units_in_tick}
 use Rattle.granule.specs.Tests.{Passed, Meeting}
 use Rattle.granule.specs.Asked.{Evaluable}
 use Rattle.granule.proofs.Passing.{passed_of, meeting_of}
@@ -16,7 +16,7 @@ use Rattle.granule.proofs.Distance.{delay_within, delay_small}
 use Rattle.image.specs.declared.table.Table.{Table}
 use Rattle.image.specs.Image.{granule_in}
 use Rattle.granules.proofs.Accepting.{accepted_small, accepted_light, accepted_joined}
-use Rattle.ephemeris.specs.Table.{H, last_place, granule_of, place_in, coefficients_of, table_value, table_delay, table_exact}
+use Rattle.ephemeris.specs.Table.{H, last_place, granule_of, place_in, coefficients_of, table_delay, table_exact}
 use Rattle.ephemeris.specs.Accepted.{Bounded, Accepted}
 use Rattle.ephemeris.proofs.Bounds.{long, short}
 use Rattle.ephemeris.proofs.Where.{At, at_place}
@@ -26,11 +26,6 @@ module _ (T : Table) (B : Bounded T) where
   pub at : (i : ℕ) → i ≤ last_place T → At T.count (H T) i (granule_of T i)
   unfolding last_place granule_of
   at i h = at_place T.count (H T) i (omega (arith, long T B)) B.some h
-
--- ---- D is v to the nearest tick
-pub delay_is : (T : Table) (cs : List ℤ) (i : ℕ) → table_delay T cs i ≡ delay_of (table_value T cs i)
-unfolding table_delay table_value delay_at
-delay_is T cs i = refl
 
 module _ (T : Table) (cs : List ℤ) (A : Accepted T cs) where
   -- ---- what the tests say of each granule
@@ -56,7 +51,7 @@ module _ (T : Table) (cs : List ℤ) (A : Accepted T cs) where
   unfolding place_in
   in_granule i h = omega (arith, (at T A.bounds i h).high)
 
-  -- ---- v and D
+  -- ---- D
   pub evaluable : (i : ℕ) → i ≤ last_place T → Evaluable (coefficients_of T cs (granule_of T i)) (place_in T i) (H T)
   evaluable i h =
       let a = at T A.bounds i h in

@@ -10,9 +10,8 @@
 -- place: `Order`.
 --
 -- The place of the earliest tick, and what a search has to show to have found it: `Search`
--- (earliest-is). Why asked + D closes in on it in three turns: `Closing` (near-first, near-next,
--- near-fixed, near-last), and that it has where D stays the same: `Staying` (near-steady). When a
--- TDB is covered: `Ends`.
+-- (earliest-is). Why asked + D closes in on it in two turns: `Closing` (near-first, near-next,
+-- near-fixed, near-last). When a TDB is covered: `Ends`.
 --
 -- Which granule a tick belongs to: `Granules` (at), with D's size there (delay-bounded). How far D
 -- moves over any number of ticks: `Moves` (delay-moves). What the bounds of a
@@ -26,6 +25,5 @@ pub mod Ticks
 pub mod Order
 pub mod Search
 pub mod Closing
-pub mod Staying
 pub mod Ends
 pub mod Promises

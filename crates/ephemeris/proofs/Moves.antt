@@ -121,18 +121,17 @@ module _ (T : Table) (cs : List ℤ) (A : Accepted T cs) where
       (at T A.bounds (i + k) h) in
       omega (arith, exact_along i k h, mul-le-mul_right (H T ^ T.degree) j)
 
-  -- ---- at two places at most k ticks apart: the exact sum
-  pub exact_moves : (i j k : ℕ) → i ≤ last_place T → j ≤ last_place T → i ≤ j + k → j ≤ i + k
-      → nat_abs (table_exact T cs i -ℤ table_exact T cs j) ≤ (3 * k + 1024) * H T ^ T.degree
-  exact_moves i j k hi hj a b = ⊎_elim
-      (λ (l : i ≤ j). let e : i + (j - i) ≡ j = omega arith in let few : j - i ≤ k = omega arith in
-      omega (arith, rw e at (exact_far i (j - i) (omega arith)), swapped (table_exact T cs i) (table_exact T cs j), mul-le-mul_right (H T ^ T.degree) few))
-      (λ (l : j < i). let e : j + (i - j) ≡ i = omega arith in let few : i - j ≤ k = omega arith in
-      omega (arith, rw e at (exact_far j (i - j) (omega arith)), mul-le-mul_right (H T ^ T.degree) few))
-      (le_or_lt i j)
+  -- ---- D
+  delay_up : (i k : ℕ) → i + k ≤ last_place T
+      → units_in_tick * nat_abs (table_delay T cs (i + k) -ℤ table_delay T cs i) ≤ 3 * k + 68608
+  delay_up i k h = apart (H T ^ T.degree) k (table_delay T cs (i + k)) (table_delay T cs i) (table_exact T cs (i + k)) (table_exact T cs i)
+      (pow_above (H T) T.degree (omega (arith, above))) (delay_exact T cs A (i + k) h) (delay_exact T cs A i (omega arith)) (exact_far i k h)
 
-  -- and D
+  -- D at two places at most k ticks apart
   pub delay_moves : (i j k : ℕ) → i ≤ last_place T → j ≤ last_place T → i ≤ j + k → j ≤ i + k
       → units_in_tick * nat_abs (table_delay T cs i -ℤ table_delay T cs j) ≤ 3 * k + 68608
-  delay_moves i j k hi hj a b = apart (H T ^ T.degree) k (table_delay T cs i) (table_delay T cs j) (table_exact T cs i) (table_exact T cs j)
-      (pow_above (H T) T.degree (omega (arith, above))) (delay_exact T cs A i hi) (delay_exact T cs A j hj) (exact_moves i j k hi hj a b)
+  delay_moves i j k hi hj a b = ⊎_elim
+      (λ (l : i ≤ j). let e : i + (j - i) ≡ j = omega arith in
+      omega (arith, rw e at (delay_up i (j - i) (omega arith)), swapped (table_delay T cs i) (table_delay T cs j)))
+      (λ (l : j < i). let e : j + (i - j) ≡ i = omega arith in omega (arith, rw e at (delay_up j (i - j) (omega arith))))
+      (le_or_lt i j)

@@ -1,7 +1,7 @@
 -- What is promised of the step over a table, for every tick: which tick the earliest one is and
 -- when the step is refused, over any table; how near to the exact sum, in order, there and back,
 -- over an accepted one. Assumes nothing.
-use mathlib.Core.Path.{◌≡◌, refl, ◌∙◌, subst}
+use mathlib.Core.Path.{◌≡◌, ◌∙◌, subst}
 use mathlib.Core.Logic.{◌⊎◌, inl, inr, ⊎_elim, ◌↔◌}
 use mathlib.Core.Bool.{Bool, true, false, cond}
 use mathlib.Core.List.{List}
@@ -19,16 +19,15 @@ use Rattle.numbers.proofs.Machine.{yes_le, le_yes, size_test, clash, is_true, no
 use Rattle.scales.specs.Tick.{furthest, is_valid}
 use Rattle.scales.specs.Answers.{kept_in, stepped_number}
 use Rattle.scales.specs.declared.answer.Epoch.{Epoch}
-use Rattle.scales.specs.declared.answer.Stepped.TheVariants.{Reached, OutsideTable, OutsideRange}
-use Rattle.scales.specs.declared.scale.Scale.TheVariants.{Tt, Tdb}
+use Rattle.scales.specs.declared.answer.Stepped.TheVariants.{Reached, OutsideRange}
+use Rattle.scales.specs.declared.scale.Scale.TheVariants.{Tdb}
 use Rattle.granule.specs.Rule.{units_in_tick}
 use Rattle.image.specs.declared.table.Table.{Table}
 use Rattle.ephemeris.specs.Table.{S, H, last_place, tick_at, is_inside, place_of, table_delay, table_exact, tdb_of, tdb_at, earliest_place, tt_of, is_covered}
 use Rattle.ephemeris.specs.Accepted.{Accepted, Earliest}
-use Rattle.ephemeris.specs.Asked.{most_ahead, ahead_of}
 use Rattle.ephemeris.specs.Steps.{tdb_step, tt_step}
 use Rattle.ephemeris.proofs.Bounds.{tick_small}
-use Rattle.ephemeris.proofs.Granules.{delay_bounded, delay_exact}
+use Rattle.ephemeris.proofs.Granules.{delay_exact}
 use Rattle.ephemeris.proofs.Ticks.{inside_both, inside_yes, before_no, after_no, placed, tick_inside, place_of_tick, tick_of_place, tdb_of_lem}
 use Rattle.ephemeris.proofs.Order.{tdb_order, tdb_rises}
 use Rattle.ephemeris.proofs.Search.{earliest_inside, earliest_none, earliest_found, earliest_reached, earliest_least}
@@ -223,22 +222,6 @@ module _ (T : Table) (cs : List ℤ) (A : Accepted T cs) where
         (λ (l : 0 < earliest_place T cs a). earliest_near T cs A a (earliest_place T cs a - 1) (omega arith))
         (le_or_lt (earliest_place T cs a) 0),
   )
-
-  -- so the tick is after the asked by D, or by one more
-  pub ahead_small : (a : ℤ) → nat_abs (ahead_of a (tt_step T cs a)) ≤ most_ahead
-  unfolding ahead_of tt_step tdb_of
-  ahead_small a = by (is_covered T cs a) refl
-    where
-      close : (t a d : ℤ) → nat_abs d ≤ 2 ^ 28 → a ≤ℤ (t -ℤ d) → (t -ℤ d) ≤ℤ (a +ℤ pos 1) → nat_abs (t -ℤ a) ≤ most_ahead
-      close = rep₃ _ (λ a b c d e f. simp lin (omega arith))
-
-      by : (b : Bool) → is_covered T cs a ≡ b
-          → nat_abs (ahead_of a (cond b (Reached (record { scale = Tt; tick = tt_of T cs a })) OutsideTable)) ≤ most_ahead
-      by true e =
-          let p = back_and_there a e in
-          close (tt_of T cs a) a (table_delay T cs (place_of T (tt_of T cs a)))
-          (delay_bounded T cs A (place_of T (tt_of T cs a)) (placed T (tt_of T cs a) (earliest_of T cs a e).inside)) p.0 p.1
-      by false e = zero-le
 
   -- the TDB of a tick inside is never refused on the way back
   pub tdb_covered : (t : ℤ) → is_inside T t ≡ true → is_covered T cs (tdb_of T cs t) ≡ true

@@ -4,7 +4,7 @@
 use Rattle.std.specs.Prelude.{Bool, ◌&&◌, List, ℕ, ◌+◌, ◌*◌, ◌-◌, ◌/◌, min, ℤ, pos, nat_abs, ◌+ℤ◌, ◌-ℤ◌}
 use Rattle.std.specs.Int.Signed.{le_z, lt_z}
 use Rattle.numbers.specs.Lowest.{lowest}
-use Rattle.granule.specs.Rule.{value_at, delay_at, exact_at}
+use Rattle.granule.specs.Rule.{delay_at, exact_at}
 use Rattle.image.specs.declared.table.Table.{Table}
 use Rattle.image.specs.Image.{granule_in}
 
@@ -43,10 +43,7 @@ place_in T i = i - granule_of T i * H T
 abbrev pub coefficients_of : Table → List ℤ → ℕ → List ℤ
 coefficients_of T cs g = granule_in cs T.degree g
 
--- ---- v, D, TDB and the exact sum
-unfoldable pub table_value : Table → List ℤ → ℕ → ℤ
-table_value T cs i = value_at (coefficients_of T cs (granule_of T i)) (place_in T i) (H T)
-
+-- ---- D, TDB and the exact sum
 unfoldable pub table_delay : Table → List ℤ → ℕ → ℤ
 table_delay T cs i = delay_at (coefficients_of T cs (granule_of T i)) (place_in T i) (H T)
 

@@ -1,15 +1,13 @@
 // 'TT from TDB: the earliest tick of the table whose TDB is at or after the one asked.' D hardly
-// moves, so asked + D closes in on it, from a D that is a guess: most often the table is evaluated
-// once where the guess is near D, and twice where it is not. It never is more than seven times,
-// three for closing in and four for settling, whatever the table and the guess.
+// moves, so asked + D closes in on it: most often the table is evaluated three times. It never is
+// more than six times, two for closing in and four for settling, whatever the table.
 ghost use Rattle.std.specs.Prelude.{◌≡◌, ◌+ℤ◌, ◌-ℤ◌};
 ghost use Rattle.ephemeris.specs.Table.{S, last_place, earliest_place, is_covered};
-ghost use Rattle.ephemeris.specs.Asked.{Pointing, held_inside, Asking, apart, is_steady};
+ghost use Rattle.ephemeris.specs.Asked.{Pointing, held_inside, Asking};
 ghost use Rattle.ephemeris.specs.Asked.{ThisOrBefore, FromHere, Here};
 
-use crate::places::{inside, last_place, place_of, tdb_at, value_at};
+use crate::places::{delay_at, inside, last_place, place_of, tdb_at};
 use crate::tick::{tdb_before, tt_before, tt_of};
-use granule::{delay, dropped};
 use image::table::Table;
 use linear::steps::Tdb;
 
@@ -28,31 +26,6 @@ fn pointed(table: Table, asked: Tdb, delay: i64) -> u64
         return 0;
     }
     last_place(table)
-}
-
-// How many ticks two places are apart.
-fn distance(place: u64, other: u64) -> u64
-    ensures { result ≡ apart place other }
-{
-    if place < other {
-        return other - place;
-    }
-    place - other
-}
-
-// Whether D is surely the same at two places, and at the one before the second: what the rounding
-// to D dropped at the first is further from half a tick than v moves between them.
-fn steady(dropped: u64, place: u64, next: u64) -> bool
-    ensures { result ≡ is_steady dropped place next }
-{
-    let ticks = distance(place, next);
-    if 10_000 < ticks {
-        return false;
-    }
-    if 30_000 < dropped {
-        return false;
-    }
-    dropped + 3 * ticks <= 30_000
 }
 
 // One look decides between a place and the one before.
@@ -88,21 +61,17 @@ fn climb(table: Table, coefficients: &[i64], asked: Tdb, from: u64) -> u64
 }
 
 // The place of the earliest tick whose TDB is at or after the asked; the last place where there is
-// none. Where D is the same at the place that asked + D leads to, that is the earliest tick's.
-// Where asked + D leads to the same place again, the earliest tick is there or one before.
-// Otherwise three turns have led to at most one tick after it and two before.
-pub fn earliest_place(table: Table, coefficients: &[i64], asked: Tdb, guess: i64) -> u64
-    requires { Asking table coefficients.now asked.0 guess }
+// none. Where asked + D leads to the same place again, the earliest tick is there or one before.
+// Otherwise two turns have led to at most one tick after it and two before.
+pub fn earliest_place(table: Table, coefficients: &[i64], asked: Tdb) -> u64
+    requires { Asking table coefficients.now asked.0 }
     ensures { result ≡ earliest_place table coefficients.now asked.0 }
 {
-    let mut place = pointed(table, asked, guess);
+    let mut place = pointed(table, asked, 0);
     let mut turns: u64 = 0;
-    while turns < 3 {
-        let v = value_at(table, coefficients, place);
-        let next = pointed(table, asked, delay(v));
-        if steady(dropped(v), place, next) {
-            return next;
-        }
+    while turns < 2 {
+        let delay = delay_at(table, coefficients, place);
+        let next = pointed(table, asked, delay);
         if next == place {
             return this_or_before(table, coefficients, asked, place);
         }

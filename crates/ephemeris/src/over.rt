@@ -1,8 +1,7 @@
 // The step between TT and TDB over an accepted table, as methods of one struct a scale: from a tick
 // in its struct to an epoch of the other scale.
-ghost use Rattle.std.specs.Prelude.{◌≡◌, ◌≤◌, nat_abs};
+ghost use Rattle.std.specs.Prelude.{◌≡◌};
 ghost use Rattle.ephemeris.specs.Accepted.{Accepted};
-ghost use Rattle.ephemeris.specs.Asked.{most_ahead, Guessing, ahead_of};
 ghost use Rattle.ephemeris.specs.Steps.{tdb_step, tt_step};
 
 use crate::earliest::{covered, earliest_place};
@@ -39,16 +38,16 @@ impl OverTt {
 impl OverTdb {
     // 'TT from TDB: the earliest tick of the table whose TDB is at or after the one asked', in
     // ticks, or 6. A TDB that is further than any table's is refused at once, so that nothing
-    // overflows. The guess at D is where the search begins, and the answer is the same for each.
-    pub fn to_tt(self, table: Table, coefficients: &[i64], guess: i64) -> Stepped
-        requires { Guessing table coefficients.now guess }
+    // overflows.
+    pub fn to_tt(self, table: Table, coefficients: &[i64]) -> Stepped
+        requires { Accepted table coefficients.now }
         ensures { result ≡ tt_step table coefficients.now self.0.0 }
     {
         let asked = self.0;
         if !near(asked) {
             return Stepped::OutsideTable;
         }
-        let place = earliest_place(table, coefficients, asked, guess);
+        let place = earliest_place(table, coefficients, asked);
         if covered(table, coefficients, asked, place) {
             let tick = tick_at(table, place);
             return Stepped::Reached(Epoch {
@@ -57,18 +56,5 @@ impl OverTdb {
             });
         }
         Stepped::OutsideTable
-    }
-}
-
-// How far the tick that a step back came to is after the asked, which is D there or one more: a
-// guess at D for an asked near by. 0 where it came to none.
-pub fn ahead(asked: Tdb, stepped: Stepped) -> i64
-    requires { nat_abs (ahead_of asked.0 stepped) ≤ most_ahead }
-    ensures { result ≡ ahead_of asked.0 stepped }
-{
-    match stepped {
-        Stepped::Reached(epoch) => epoch.tick - asked.0,
-        Stepped::OutsideTable => 0,
-        Stepped::OutsideRange => 0,
     }
 }

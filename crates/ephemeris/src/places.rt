@@ -1,13 +1,13 @@
-// The ticks of a table and their places: the tick S + i has the place i, from 0 to GH. And v and
+// The ticks of a table and their places: the tick S + i has the place i, from 0 to GH. And D and
 // TDB at a place.
 ghost use Rattle.std.specs.Prelude.{◌≡◌};
 ghost use Rattle.ephemeris.specs.Table.{last_place, tick_at, is_inside, place_of};
-ghost use Rattle.ephemeris.specs.Table.{granule_of, table_value, tdb_at};
+ghost use Rattle.ephemeris.specs.Table.{granule_of, table_delay, tdb_at};
 ghost use Rattle.ephemeris.specs.Accepted.{Bounded};
 ghost use Rattle.ephemeris.specs.Asked.{Counted, TickInside, Placed};
 
 use crate::tick::{tdb_of, tt_before};
-use granule::{Units, delay, value};
+use granule::{delay, value};
 use image::table::Table;
 use linear::steps::{Tdb, Tt};
 
@@ -62,17 +62,18 @@ fn granule_of(table: Table, place: u64) -> u64
     count - 1
 }
 
-// v in units.
-pub fn value_at(table: Table, coefficients: &[i64], place: u64) -> Units
+// D in ticks.
+pub fn delay_at(table: Table, coefficients: &[i64], place: u64) -> i64
     requires { Placed table coefficients.now place }
-    ensures { result.0 ≡ table_value table coefficients.now place }
+    ensures { result ≡ table_delay table coefficients.now place }
 {
     let g = granule_of(table, place);
     let length = table.length as u64;
     let width = table.degree as usize + 1;
     let from = g as usize * width;
     let part = &coefficients[from..from + width];
-    value(part, place - g * length, length)
+    let v = value(part, place - g * length, length);
+    delay(v)
 }
 
 // 'TDB = TT − D'
@@ -81,6 +82,6 @@ pub fn tdb_at(table: Table, coefficients: &[i64], place: u64) -> Tdb
     ensures { result.0 ≡ tdb_at table coefficients.now place }
 {
     let tick = tick_at(table, place);
-    let v = value_at(table, coefficients, place);
-    tdb_of(tick, delay(v))
+    let delay = delay_at(table, coefficients, place);
+    tdb_of(tick, delay)
 }

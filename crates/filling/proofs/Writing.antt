@@ -18,8 +18,7 @@ use Rattle.scales.specs.Rows.{end}
 use Rattle.entries.specs.declared.batched.Batched.TheVariants as Batched
 use Rattle.walk.specs.declared.kept.Kept.{Kept}
 use Rattle.entries.specs.Entries.{entry_of, all_tried}
-use Rattle.linear.specs.Steps.{all_by}
-use Rattle.filling.specs.Inner.{ticks_by}
+use Rattle.filling.specs.Inner.{ticks_by, all_by}
 use Rattle.walk.specs.Walk.{step_of}
 use Rattle.entries.proofs.TriedLists.{tried_accepted}
 use Rattle.entries.proofs.Interval.{entry_walk}

@@ -1,10 +1,14 @@
 -- What filling the second list asks, and what it gives.
-use Rattle.std.specs.Prelude.{◌≡◌, List, map, ℕ, ℤ, length}
+use Rattle.std.specs.Prelude.{◌≡◌, Bool, true, false, List, map, ℕ, ℤ, length}
 use Rattle.scales.specs.declared.answer.Answer.{Answer}
+use Rattle.scales.specs.declared.answer.Stepped.{Stepped}
+use Rattle.scales.specs.declared.path.Line.{Line}
 use Rattle.scales.specs.declared.scale.Scale.{Scale}
-use Rattle.scales.specs.Answers.{answer_tick}
+use Rattle.scales.specs.Answers.{answer_tick, stepped_tick}
+use Rattle.scales.specs.Rows.{LineRow, line_row, turned}
 use Rattle.walk.specs.declared.kept.Kept.{Kept}
 use Rattle.walk.specs.Inner.{Held}
+use Rattle.walk.specs.Walk.{to_tdb, to_tt}
 use Rattle.entries.specs.declared.batched.Batched.{Batched}
 use Rattle.entries.specs.declared.batched.Batched.TheVariants as Batched
 use Rattle.entries.specs.Batched.{batched_left}
@@ -13,6 +17,20 @@ use Rattle.entries.specs.Entries.{all_tried, entry_of}
 -- the ticks that a batch's entries are answered with
 abbrev pub ticks_by : (ℤ → Answer) → List ℤ → List ℤ
 ticks_by entry ticks = map (λ tick. answer_tick (entry tick)) ticks
+
+-- a step, of every tick of a list
+abbrev pub all_by : (ℤ → Stepped) → List ℤ → List ℤ
+all_by step ticks = map (λ tick. stepped_tick (step tick)) ticks
+
+-- the row of a line, along it or back
+abbrev pub row_by : Bool → Line → LineRow
+row_by true line = line_row line
+row_by false line = turned (line_row line)
+
+-- the step over the table, from TT to TDB or back
+abbrev pub table_by : Bool → Kept → List ℤ → ℤ → Stepped
+table_by true kept coefficients tick = to_tdb kept coefficients tick
+table_by false kept coefficients tick = to_tt kept coefficients tick
 
 -- what a table is kept for: as many answers as ticks
 pub record Ready (ticks answers : List ℤ) (kept : Kept) (coefficients : List ℤ) : Type 0 where

@@ -1,15 +1,15 @@
 // One step, of every tick of a list, which are ticks of one scale: which step it is is asked once,
-// and each kind has a loop of its own, the linear steps' in `linear`.
+// and each kind has a loop of its own.
 ghost use Rattle.std.specs.Prelude.{◌≡◌, length};
 ghost use Rattle.scales.specs.Answers.{stepped_tick};
-ghost use Rattle.linear.specs.Steps.{all_by};
+ghost use Rattle.scales.specs.Rows.{line_step};
 ghost use Rattle.walk.specs.Inner.{Held};
-ghost use Rattle.walk.specs.Walk.{to_tdb, to_tt, step_of};
+ghost use Rattle.walk.specs.Walk.{step_of};
+ghost use Rattle.filling.specs.Inner.{row_by, table_by, all_by};
 
-use ephemeris::over::ahead;
-use linear::steps::{Tdb, line_all};
+use linear::steps::{along, back};
 use scales::answer::{Epoch, Stepped};
-use scales::path::{Edge, Step};
+use scales::path::{Edge, Line, Step};
 use scales::scale::Scale;
 use walk::kept::Kept;
 use walk::step::{to_tdb, to_tt};
@@ -38,39 +38,53 @@ fn tick_reached(stepped: Stepped) -> i64
     }
 }
 
-// The step from TT to TDB, of every tick of a list. What is kept has been judged and accepted.
-fn tdb_all(scale: Scale, answers: &mut [i64], kept: Kept, coefficients: &[i64])
-    requires { Held kept coefficients.now }
-    ensures { answers.new
-        ≡ all_by (to_tdb kept coefficients.now) answers.old }
+// The tick that a linear step comes to, along a line or back.
+fn by_line(line: Line, forth: bool, scale: Scale, tick: i64) -> i64
+    ensures { result ≡ stepped_tick (line_step (row_by forth line) tick) }
 {
-    let mut at = 0;
-    while at < answers.len() {
-        let tick = answers[at];
-        let next = tick_reached(to_tdb(Epoch { scale, tick }, kept, coefficients));
-        answers[at] = next;
-        at += 1;
+    if forth {
+        return tick_reached(along(line, Epoch { scale, tick }));
+    }
+    tick_reached(back(line, Epoch { scale, tick }))
+}
+
+// A linear step, of every tick of a list.
+fn line_all(line: Line, forth: bool, scale: Scale, answers: &mut [i64])
+    ensures { answers.new
+        ≡ all_by (line_step (row_by forth line)) answers.old }
+{
+    let mut index = 0;
+    while index < answers.len() {
+        let tick = answers[index];
+        let next = by_line(line, forth, scale, tick);
+        answers[index] = next;
+        index += 1;
     }
 }
 
-// The step back, likewise. How far a tick was after its TDB is the guess for the next but one, so
-// that ticks in order are most often found by one look at the table, and a processor that works on
-// two ticks at once need not wait for the first one's search.
-fn tt_all(scale: Scale, answers: &mut [i64], kept: Kept, coefficients: &[i64])
+// The tick that a step over the table comes to, from TT to TDB or back. What is kept has been
+// judged and accepted.
+fn by_table(forth: bool, scale: Scale, tick: i64, kept: Kept, coefficients: &[i64]) -> i64
+    requires { Held kept coefficients.now }
+    ensures { result ≡ stepped_tick (table_by forth kept coefficients.now tick) }
+{
+    if forth {
+        return tick_reached(to_tdb(Epoch { scale, tick }, kept, coefficients));
+    }
+    tick_reached(to_tt(Epoch { scale, tick }, kept, coefficients))
+}
+
+// A step over the table, of every tick of a list.
+fn table_all(forth: bool, scale: Scale, answers: &mut [i64], kept: Kept, coefficients: &[i64])
     requires { Held kept coefficients.now }
     ensures { answers.new
-        ≡ all_by (to_tt kept coefficients.now) answers.old }
+        ≡ all_by (table_by forth kept coefficients.now) answers.old }
 {
-    let mut guess: i64 = 0;
-    let mut newer: i64 = 0;
     let mut at = 0;
     while at < answers.len() {
         let tick = answers[at];
-        let stepped = to_tt(Epoch { scale, tick }, kept, coefficients, guess);
-        let next = tick_reached(stepped);
+        let next = by_table(forth, scale, tick, kept, coefficients);
         answers[at] = next;
-        guess = newer;
-        newer = ahead(Tdb(tick), stepped);
         at += 1;
     }
 }
@@ -83,12 +97,12 @@ pub fn step_all(step: Step, scale: Scale, answers: &mut [i64], kept: Kept, coeff
 {
     match step {
         Step::Along(edge) => match edge {
-            Edge::Linear(line) => line_all(line, true, answers),
-            Edge::Table => tdb_all(scale, answers, kept, coefficients),
+            Edge::Linear(line) => line_all(line, true, scale, answers),
+            Edge::Table => table_all(true, scale, answers, kept, coefficients),
         },
         Step::Back(edge) => match edge {
-            Edge::Linear(line) => line_all(line, false, answers),
-            Edge::Table => tt_all(scale, answers, kept, coefficients),
+            Edge::Linear(line) => line_all(line, false, scale, answers),
+            Edge::Table => table_all(false, scale, answers, kept, coefficients),
         },
     }
 }

@@ -4,7 +4,7 @@
 -- degree and length; value-within, delay-within and delay-small for a granule that has passed).
 --
 -- How far they move from tick to tick: `Neighbours` (exact-next, value-next, delay-next in a
--- granule; value-over, delay-over over a join; apart for two values whose exact sums are known).
+-- granule; value-over, delay-over over a join).
 --
 -- `Passed` and `Meeting`, which these ask, from the tests: `Passing` (passed-of, meeting-of). What
 -- test 14 says of a coefficient: small-at there. That a zero behind the coefficients changes
@@ -21,7 +21,6 @@ pub mod Neighbours
 pub mod Passing
 pub mod Zeros
 pub mod Bounded
-pub mod Steps
 pub mod Digits
 pub mod Product
 pub mod Term

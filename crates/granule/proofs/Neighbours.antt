@@ -45,14 +45,14 @@ exact_slope p' p H h hp' hp cs n e w = rw (exact_is p' H cs, exact_is p H cs)
     (slower H (nat_abs (exact_from p' H 0 cs -ℤ exact_from p H 0 cs)) (weight_from 0 cs) (H ^ n) (nat_abs (p' -ℤ p)) h w
     (sum_moves p' p H hp' hp 0 cs n (omega arith)))
 
--- ---- two values, from the exact sums that they are near, in one granule or two
+-- ---- two values, from the exact sums that they are near
 apart_id : (b v' v x' x : ℤ) → b *ℤ (v' -ℤ v) ≡ (v' *ℤ b -ℤ x') +ℤ (neg_ℤ (v *ℤ b -ℤ x) +ℤ (x' -ℤ x))
 apart_id = all₅ _ (λ ρ. simp quote (ring ρ _ _ tt))
 
 cancel : (B x m : ℕ) → 0 < B → 2 * (B * x) ≤ 1039 * B + (1039 * B + 2 * (m * B)) → x ≤ 1039 + m
 cancel B x m h k = le_of_mul-le-mul_left {k = B} (omega arith) h
 
-pub apart : (B m : ℕ) (v' v x' x : ℤ) → 0 < B → 2 * nat_abs (v' *ℤ pos B -ℤ x') ≤ 1039 * B
+apart : (B m : ℕ) (v' v x' x : ℤ) → 0 < B → 2 * nat_abs (v' *ℤ pos B -ℤ x') ≤ 1039 * B
     → 2 * nat_abs (v *ℤ pos B -ℤ x) ≤ 1039 * B → nat_abs (x' -ℤ x) ≤ m * B
     → nat_abs (v' -ℤ v) ≤ 1039 + m
 apart B m v' v x' x h k' k l =

@@ -1,6 +1,6 @@
 -- What the inner functions ask of their callers. All of it follows from the bounds of 01 and from
 -- test 14; without it the numbers would not fit 64 bits.
-use Rattle.std.specs.Prelude.{◌≡◌, true, List, ℕ, ◌+◌, ◌*◌, ◌/◌, ◌^◌, ◌≤◌, ◌<◌, ℤ, nat_abs, length}
+use Rattle.std.specs.Prelude.{◌≡◌, true, List, ℕ, ◌+◌, ◌^◌, ◌≤◌, ℤ, nat_abs, length}
 use Rattle.granule.specs.Bounds.{most_degree, shortest_length, longest_length}
 use Rattle.granule.specs.Rule.{scale}
 use Rattle.granule.specs.Tests.{largest, is_small}
@@ -10,15 +10,6 @@ pub record InGranule (place H : ℕ) : Type 0 where
   pub long : shortest_length ≤ H
   pub short : H ≤ longest_length
   pub inside : place ≤ H
-
--- u and 2^30: 2^31·place / H to the nearest, a half to the greater
-unfoldable pub steps_of : ℕ → ℕ → ℕ
-steps_of place H = (2 ^ 32 * place + H) / (2 * H)
-
--- a guess at it
-pub record Guessed (n place H : ℕ) : Type 0 where
-  pub placed : InGranule place H
-  pub small : n < 2 ^ 32
 
 -- the factors of a rounded product: u is 2^30·s with s from −1 to 1, and no b_k of coefficients up
 -- to 2^40 comes near 2^60

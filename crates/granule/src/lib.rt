@@ -1,22 +1,32 @@
 // One granule of a table: its value at a tick in fixed point, as 01's 'The granule rule' says, and
 // the tests 14 to 16 of its coefficients. A granule's coefficients are lent as a slice, c_0 first,
 // as many as the degree plus one; a coefficient becomes `Units` where it is taken out.
-mod argument;
-
 ghost use Rattle.std.specs.Prelude.{◌≡◌, ◌^◌, ℤ, pos, nat_abs, ◌+ℤ◌, ◌-ℤ◌, ◌*ℤ◌};
 ghost use Rattle.std.specs.Int.Signed.{le_z};
 ghost use Rattle.numbers.specs.Rounding.{nearest};
-ghost use Rattle.granule.specs.Rule.{units_in_tick, delay_of, value_at};
+ghost use Rattle.granule.specs.Rule.{p_of, u_of, delay_of, value_at};
 ghost use Rattle.granule.specs.Tests.{is_within, is_small, weight_of, is_light};
 ghost use Rattle.granule.specs.Tests.{plain_sum, alternating_sum, widest, is_joined};
-ghost use Rattle.granule.specs.Asked.{Factors, Terms, Summable, Evaluable};
+ghost use Rattle.granule.specs.Asked.{InGranule, Factors, Terms, Summable, Evaluable};
 
-use crate::argument::argument;
 use pieces::signed::rounded_product;
 
 // Coefficient units: 1/65536 tick.
 #[derive(Drop)]
 pub struct Units(pub i64);
+
+// u, '2^30·s rounded': 2^31·place / length by three digits, 13, 13 and 5 bits, of which the last is
+// rounded; then 2^30 less. It is a number without units.
+fn argument(place: u64, length: u64) -> i64
+    requires { InGranule place length }
+    ensures { result ≡ u_of (p_of place length) length }
+{
+    let first = place * 8192;
+    let second = first % length * 8192;
+    let third = second % length * 64 + length;
+    let steps = first / length * 262144 + second / length * 32 + third / (2 * length);
+    steps as i64 - 1_073_741_824
+}
 
 // 'rounded(u·b/2^29)', in pieces: u·8·b / 2^32. 8·b may be more than 64 bits hold, so it is handed
 // on as two pieces, which are two parts of b.
@@ -95,17 +105,6 @@ pub fn delay(v: Units) -> i64
     ensures { result ≡ delay_of v.0 }
 {
     ((v.0 >> 15) + 1) >> 1
-}
-
-// What the rounding of v to D drops or adds, in units: at most half a tick.
-pub fn dropped(v: Units) -> u64
-    ensures { result ≡ nat_abs (v.0 -ℤ pos units_in_tick *ℤ delay_of v.0) }
-{
-    let part = (v.0 - 65_536 * (v.0 >> 16)) as u64;
-    if part < 32_768 {
-        return part;
-    }
-    65_536 - part
 }
 
 // |c|

@@ -1,11 +1,14 @@
 -- Where a coefficient stands in the list and in the bytes. Assumes nothing.
 use mathlib.Core.Path.{◌≡◌}
+use mathlib.Core.List.{List}
 use Prim.Native.Nat.{ℕ, ◌+◌, ◌*◌, ◌/◌, ◌%◌, ◌≤◌, ◌<◌}
 use native.Mathlib.Nat.{mul-le-mul_right, mul-le-mul, div-lt_iff_lt-mul, mod-lt}
 use native.Mathlib.Omega.{arith}
+use lib.ListN.{length}
 use Rattle.granule.specs.Bounds.{most_degree}
 use Rattle.form.specs.Few.{most_granules, Few}
 use Rattle.form.specs.Form.{blocks_of}
+use Rattle.image.specs.Asked.{StoredAt}
 use Rattle.image.specs.Bounds.{most_coefficients}
 use Rattle.image.specs.Image.{stored_at}
 
@@ -30,3 +33,14 @@ place_fits G n i h l =
 -- a granule's sixteen are there where its block is
 pub stored_room : (G g l : ℕ) → g < G → l ≡ blocks_of G * 512 → (1 + g / 3) * 512 + 512 ≤ l
 stored_room G g l h e = omega arith
+
+-- and so is each coefficient of the list
+pub listed_stored : (b : List ℕ) (G n i : ℕ) → Few G n → length b ≡ blocks_of G * 512 → i < G * (n + 1)
+    → StoredAt b (i / (n + 1)) (i % (n + 1))
+listed_stored b G n i f e l =
+    let q : i / (n + 1) < G = (div-lt_iff_lt-mul {k = n + 1} {x = i} {y = G} (omega arith)).1 l in
+    let m : i % (n + 1) < n + 1 = mod-lt i (omega arith) in
+    record {
+      granule = record { few = omega (arith, f.granules); long = stored_room G (i / (n + 1)) (length b) q e };
+      which = omega (arith, f.degree);
+    }

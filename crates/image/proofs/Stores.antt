@@ -1,17 +1,15 @@
--- Stores that fill a buffer from the front: its body, its check, the next block; a list by its
--- parts. Assumes nothing.
-use mathlib.Core.Path.{◌≡◌, refl, sym, ◌∙◌, ap, ap₂}
-use mathlib.Core.List.{List, ◌++◌, append_assoc}
+-- Stores that fill a buffer from the front: its body, its check, the next block. Assumes nothing.
+use mathlib.Core.Path.{◌≡◌, refl, sym, ◌∙◌, ap}
+use mathlib.Core.List.{List}
 use Prim.Native.Nat.{ℕ, ◌+◌, ◌*◌, ◌-◌, ◌/◌, ◌%◌, ◌≤◌, ◌<◌}
 use native.Mathlib.Nat.{not-suc-le-zero}
 use native.Mathlib.Decide.{dec_lt}
 use native.Mathlib.Omega.{arith}
 use borrow.Author.Tests.{lt-ltb}
 use borrow.Author.Count.{below_more}
-use borrow.Rule.Slice.PartMut.{post_of, put_mid}
 use lib.IntN.{ℤ}
-use lib.ListN.{length, get_or, set, take, drop, length-set}
-use lib.Seq.{get_or-set_same, get_or-set_other, length-take-le, take_at, take-add}
+use lib.ListN.{length, get_or, set, length-set}
+use lib.Seq.{get_or-set_same, get_or-set_other}
 use Rattle.image.specs.declared.table.Table.{Table}
 use Rattle.words.specs.Words.{byte_of, from}
 use Rattle.words.specs.Check.{check_a, check_b}
@@ -123,13 +121,3 @@ image_more t c k b b' e p i h = go (dec_lt i (k * 512))
         let y : i / 512 ≡ k = omega arith in
         let z : i % 512 ≡ j = omega arith in
         rw (y, z) (ap (λ m. get_or b' m 0) (sym x) ∙ p.each j (omega arith))
-
--- ---- a list that is filled from the front with another, a part more
-pub part_more : {A : Type 0} (at width : ℕ) (l part whole : List A) → at + width ≤ length whole
-    → take at l ≡ take at whole → part ≡ take width (drop at whole)
-    → take (at + width) (put_mid at (at + width - at) l part) ≡ take (at + width) whole
-part_more at width l part whole h before here =
-    let rest = post_of at (at + width - at) l in
-    let front = ap₂ ◌++◌ before here ∙ sym (take-add at width whole) in
-    ap (take (at + width)) (sym (append_assoc (take at l) part rest) ∙ ap (λ k. k ++ rest) front)
-    ∙ take_at (take (at + width) whole) rest (at + width) (length-take-le (at + width) whole h)

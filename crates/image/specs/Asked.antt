@@ -2,7 +2,6 @@
 use Rattle.std.specs.Prelude.{◌≡◌, true, List, ℕ, ◌+◌, ◌*◌, ◌/◌, ◌≤◌, ◌<◌, ℤ, length, get_or}
 use Rattle.words.specs.Words.{byte_of, from}
 use Rattle.words.specs.Check.{check_a, check_b}
-use Rattle.granule.specs.Bounds.{most_degree}
 use Rattle.form.specs.Few.{most_granules, Few}
 use Rattle.form.specs.Form.{blocks_of, is_coefficient}
 use Rattle.form.specs.Asked.{BodyPlace}
@@ -36,12 +35,6 @@ pub record Stored (b : List ℕ) (g : ℕ) : Type 0 where
 pub record StoredAt (b : List ℕ) (g m : ℕ) : Type 0 where
   pub granule : Stored b g
   pub which : m < 16
-
--- a granule that is stored, and a list of the size of its c_0..c_n
-pub record TakingGranule (b : List ℕ) (g n : ℕ) (d : List ℤ) : Type 0 where
-  pub granule : Stored b g
-  pub degree : n ≤ most_degree
-  pub long : length d ≡ n + 1
 
 -- blocks enough for the granules, and a list of their size
 pub record Taking (b : List ℕ) (G n : ℕ) (d : List ℤ) : Type 0 where

@@ -1,8 +1,7 @@
 // The coefficients that bytes hold.
 ghost use Rattle.std.specs.Prelude.{◌≡◌};
-ghost use Rattle.image.specs.Image.{coefficient_at, stored_of, granule_stored};
-ghost use Rattle.image.specs.Image.{coefficients_stored};
-ghost use Rattle.image.specs.Asked.{Stored, StoredAt, TakingGranule, Taking};
+ghost use Rattle.image.specs.Image.{coefficient_at, stored_of, coefficients_stored};
+ghost use Rattle.image.specs.Asked.{Stored, StoredAt, Taking};
 
 use words::number_at;
 
@@ -30,28 +29,18 @@ pub fn stored(bytes: &[u8], granule: usize) -> [i64; 16]
     coefficients
 }
 
-// c_0..c_n of a granule, into a list of exactly that size. The caller knows that they are stored.
-fn take_granule(bytes: &[u8], granule: usize, degree: usize, coefficients: &mut [i64])
-    requires { TakingGranule bytes.now granule degree coefficients.old }
-    ensures { coefficients.new ≡ granule_stored
-        bytes.now degree granule }
-{
-    for m in 0..degree + 1 {
-        coefficients[m] = coefficient(bytes, granule, m);
-    }
-}
-
-// The coefficients of every granule, into a list of exactly that size. A granule's place begins
-// where the one before it ends, so that no index is divided by n + 1.
+// The coefficients of every granule, into a list of exactly that size.
 pub fn take_coefficients(bytes: &[u8], count: usize, degree: usize, coefficients: &mut [i64])
     requires { Taking bytes.now count degree coefficients.old }
     ensures { coefficients.new ≡ coefficients_stored
         bytes.now count degree }
 {
-    let mut from = 0;
-    for granule in 0..count {
-        let next = from + (degree + 1);
-        take_granule(bytes, granule, degree, &mut coefficients[from..next]);
-        from = next;
+    let mut i = 0;
+    while i < coefficients.len() {
+        let g = i / (degree + 1);
+        let m = i % (degree + 1);
+        let c = coefficient(bytes, g, m);
+        coefficients[i] = c;
+        i += 1;
     }
 }

@@ -17,22 +17,22 @@ use Rattle.scales.specs.Linear.{nearest_tick, exact, tcg_to_tt, tcb_to_tdb, inve
 use Rattle.linear.proofs.Rates.{slowed, quickened}
 
 -- the reduced rates: L, D and E = D − L of the geocentric and of the barycentric pair
-abbrev pub geo_l : ℕ
+abbrev geo_l : ℕ
 geo_l = 3484645067
 
-abbrev pub geo_d : ℕ
+abbrev geo_d : ℕ
 geo_d = 5000000000000000000
 
-abbrev pub geo_e : ℕ
+abbrev geo_e : ℕ
 geo_e = 4999999996515354933
 
-abbrev pub bary_l : ℕ
+abbrev bary_l : ℕ
 bary_l = 193814971
 
-abbrev pub bary_d : ℕ
+abbrev bary_d : ℕ
 bary_d = 12500000000000000
 
-abbrev pub bary_e : ℕ
+abbrev bary_e : ℕ
 bary_e = 12499999806185029
 
 -- ---- a mere shift is exact

@@ -1,8 +1,7 @@
 -- The laws of the linear steps. `Promises`: what holds of every one (half a tick, order, there and
--- back). `Rates` and `Fractions` are the arithmetic behind a step's numbers, `Serving` what makes
--- numbers serve a step, `Methods` what the code's methods and steps come to.
+-- back). `Rates` and `Fractions` are the arithmetic behind the kernels, `Methods` what the code's
+-- methods and steps come to.
 pub mod Rates
 pub mod Fractions
-pub mod Serving
 pub mod Promises
 pub mod Methods

@@ -1,25 +1,38 @@
 -- What the methods of the structs come to, and the steps by them: a number's bits are read back, a
--- valid tick is near enough, and what the step comes to is kept. Assumes nothing.
+-- mere shift is exact, a valid tick is near enough, and what the step comes to is kept. Assumes
+-- nothing.
 use mathlib.Core.Path.{◌≡◌, ◌∙◌, ap}
 use mathlib.Core.Bool.{true, false}
-use Prim.Native.Nat.{◌≤◌}
-use lib.IntN.{ℤ, nat_abs}
+use Prim.Native.Nat.{ℕ}
+use native.Mathlib.Omega.{arith}
+use lib.IntN.{ℤ, pos, neg_ℤ, ◌+ℤ◌, ◌-ℤ◌}
 use mir.Syntax.{w64}
 use mir.Val.{SFits}
+use Rattle.numbers.proofs.Differences.{rep, lin}
 use Rattle.numbers.proofs.Machine.{read, read_is}
 use Rattle.scales.specs.declared.answer.Stepped.{Stepped}
 use Rattle.scales.specs.declared.answer.Stepped.TheVariants.{OutsideRange}
 use Rattle.scales.specs.Answers.{kept_in}
-use Rattle.scales.specs.Linear.{Linear, nearest_tick}
+use Rattle.scales.specs.Linear.{nearest_tick}
 use Rattle.scales.specs.Rows.{LineRow, line_step}
-use Rattle.scales.specs.Tick.{furthest, is_valid}
-use Rattle.linear.specs.declared.drift.Numbers.{Numbers}
-use Rattle.linear.specs.Drift.{tick_by, Serves}
+use Rattle.scales.specs.Tick.{is_valid}
+use Rattle.linear.proofs.Fractions.{shifted}
 
--- the result r of a method, from a tick that the code reads as t
-pub method_is : (numbers : Numbers) (rule : Linear) (t r : ℤ) → SFits w64 t → SFits w64 r → nat_abs t ≤ furthest
-    → Serves numbers rule → r ≡ tick_by numbers (read t) → read r ≡ nearest_tick rule t
-method_is numbers rule t r ft fr near serves e = read_is r fr ∙ e ∙ rw (read_is t ft) (serves.nearest t near)
+only_on : (t : ℤ) (k : ℕ) → t +ℤ pos k -ℤ pos 0 ≡ t +ℤ pos k
+only_on t k = rep (λ t. t +ℤ pos k -ℤ pos 0 ≡ t +ℤ pos k) (λ a b. simp lin (omega arith)) t
+
+only_back : (t : ℤ) (k : ℕ) → t +ℤ pos 0 -ℤ pos k ≡ t +ℤ neg_ℤ (pos k)
+only_back t k = rep (λ t. t +ℤ pos 0 -ℤ pos k ≡ t +ℤ neg_ℤ (pos k)) (λ a b. simp lin (omega arith)) t
+
+-- the result r of a shift, whose tick the code reads as t
+module _ (t r : ℤ) (ft : SFits w64 t) (fr : SFits w64 r) where
+  pub shifted_on : (k : ℕ) → r ≡ read t +ℤ pos k -ℤ pos 0
+      → read r ≡ nearest_tick (record { times = 1; over = 1; plus = pos k }) t
+  shifted_on k e = read_is r fr ∙ e ∙ rw (read_is t ft) (only_on t k ∙ shifted t (pos k))
+
+  pub shifted_back : (k : ℕ) → r ≡ read t +ℤ pos 0 -ℤ pos k
+      → read r ≡ nearest_tick (record { times = 1; over = 1; plus = neg_ℤ (pos k) }) t
+  shifted_back k e = read_is r fr ∙ e ∙ rw (read_is t ft) (only_back t k ∙ shifted t (neg_ℤ (pos k)))
 
 -- ---- a step from a tick
 module _ (row : LineRow) (t : ℤ) where

@@ -1,2 +1,1 @@
 pub mod Drift
-pub mod Steps

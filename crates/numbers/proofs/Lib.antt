@@ -30,8 +30,7 @@
 --
 -- An `i64` of the code: `Machine` (that a number fits, what a test leaves, tests that say the same,
 -- >> as a floor, x·y + z, −1 − z of a negative z). The bits of a number that fits read back as it:
--- `read_is`. What a shift leaves of it: `Rest`. The elements of an array: `Arrays`. A double of the
--- code: `Doubles`.
+-- `read_is`. The elements of an array: `Arrays`.
 --
 -- The lowest place at which a test fails, a test of every place, a list by its places: `Places`.
 -- Two tests in one: `Flags`. A list of tests, and the lowest rank among tests of the same places:
@@ -48,8 +47,6 @@ pub mod Order
 pub mod Rounding
 pub mod Machine
 pub mod Arrays
-pub mod Doubles
-pub mod Rest
 pub mod Solver
 pub mod Chebyshev
 pub mod Slope

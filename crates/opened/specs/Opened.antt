@@ -1,7 +1,8 @@
 -- A table that bytes hold, opened: 'G·(n+1) coefficients granule by granule', taken out of the
 -- bytes.
-use Rattle.std.specs.Prelude.{◌≡◌, List, ◌++◌, ℕ, ◌≤◌, ℤ, length, drop}
+use Rattle.std.specs.Prelude.{◌≡◌, List, ℕ, ◌≤◌, ℤ, pos, length, take, drop, replicate}
 use Rattle.image.specs.declared.table.Table.{Table}
+use Rattle.image.specs.Bounds.{most_coefficients}
 use Rattle.image.specs.Image.{table_of, how_many, coefficients_stored}
 use Rattle.granules.specs.Accepted.{Accepted}
 use Rattle.blocks.specs.declared.answer.Judged.{Judged}
@@ -16,15 +17,11 @@ coefficients_in bytes = coefficients_stored bytes (table_of bytes).count (table_
 pub record Opened (bytes : List ℕ) (table : Table) : Type 0 where
   pub accepted : judged bytes ≡ J.Accepted table
 
--- and a room for its coefficients
-pub record Roomy (bytes : List ℕ) (table : Table) (room : List ℤ) : Type 0 where
-  pub opened : Opened bytes table
+-- the coefficients at the front of a room for the largest table, and zeros behind
+pub record Taken (bytes : List ℕ) (table : Table) (room : List ℤ) : Type 0 where
   pub long : how_many table ≤ length room
-
--- a room with the table's coefficients at its front, and behind them as it was
-abbrev pub taken_into : List ℕ → Table → List ℤ → List ℤ
-taken_into bytes table room =
-    coefficients_stored bytes table.count table.degree ++ drop (how_many table) room
+  pub front : take (how_many table) room ≡ coefficients_stored bytes table.count table.degree
+  pub behind : drop (how_many table) room ≡ drop (how_many table) (replicate most_coefficients (pos 0))
 
 -- the coefficients of bytes that were judged, if they were accepted
 pub record Lent (table : Judged) (coefficients : List ℤ) : Type 0 where

@@ -3,7 +3,7 @@
 ghost use Rattle.std.specs.Prelude.{◌≡◌, pos, replicate};
 ghost use Rattle.image.specs.Bounds.{most_coefficients};
 ghost use Rattle.image.specs.Image.{how_many};
-ghost use Rattle.opened.specs.Opened.{Roomy, taken_into};
+ghost use Rattle.opened.specs.Opened.{Opened, Taken};
 
 use image::bounds::MOST_COEFFICIENTS;
 use image::table::Table;
@@ -18,24 +18,25 @@ pub fn how_many(table: Table) -> usize
 
 // Room for the coefficients of the largest table. A function of its own, so that no other
 // function's proof unrolls so long a literal.
-pub fn room() -> [i64; MOST_COEFFICIENTS]
+fn room() -> [i64; MOST_COEFFICIENTS]
     ensures { result ≡ replicate most_coefficients (pos 0) }
 {
     [0i64; MOST_COEFFICIENTS]
 }
 
-// Takes the coefficients into the front of a room. The caller has the room and lends it: handed
-// back by value it would be copied whole. The bytes have been judged and accepted.
-pub fn take(bytes: &[u8], table: Table, room: &mut [i64])
-    requires { Roomy bytes.now table room.old }
-    ensures { room.new
-        ≡ taken_into bytes.now table room.old }
+// The coefficients, at the front of the room, and zeros behind. The bytes have been judged and
+// accepted.
+pub fn taken(bytes: &[u8], table: Table) -> [i64; MOST_COEFFICIENTS]
+    requires { Opened bytes.now table }
+    ensures { Taken bytes.now table result }
 {
     let many = how_many(table);
+    let mut coefficients = room();
     take_coefficients(
         bytes,
         table.count as usize,
         table.degree as usize,
-        &mut room[..many],
+        &mut coefficients[..many],
     );
+    coefficients
 }

@@ -3,11 +3,13 @@
 -- caller learns from the contract itself. Every public function of every library has its line, in
 -- the order of crates.txt and of the sources; but for `files` and `turns`, where the system says
 -- which bytes come. Assumes nothing.
-use mathlib.Core.Path.{◌≡◌, refl, sym, ◌∙◌, ap, ap₂}
-use mathlib.Core.List.{List}
+use mathlib.Core.Path.{◌≡◌, sym, ◌∙◌, ap, ap₂}
+use mathlib.Core.List.{List, ◌++◌}
 use Prim.Native.Nat.{ℕ}
 use lib.IntN.{ℤ}
+use lib.ListN.{take-append-drop}
 use Rattle.granule.specs.declared.Units.{Units}
+use Rattle.image.specs.Image.{how_many}
 use Rattle.pieces.proofs as pieces
 use Rattle.scales.proofs as scales
 use Rattle.linear.proofs as linear
@@ -112,9 +114,6 @@ along = equation
 pub back : One linear.steps.back.Reads.Learnt
 back = equation
 
-pub line_all : OneInto linear.steps.line_all.Reads.Learnt (λ κs s. s.1.1.0.now)
-line_all = both (λ κs a r s p. (refl, p))
-
 -- ---- utc
 pub is_right : One utc.leaps.is_right.Reads.Learnt
 is_right = equation
@@ -131,9 +130,6 @@ value = units
 
 pub delay : One granule.delay.Reads.Learnt
 delay = equation
-
-pub dropped : One granule.dropped.Reads.Learnt
-dropped = equation
 
 pub small : One granule.small.Reads.Learnt
 small = equation
@@ -225,14 +221,11 @@ pub write : OneInto blocks.writing.write.Reads.Learnt (λ κs s. s.1.1.1.1.1.0.n
 write = both (λ κs a r s p. (p.answer, p.buffer))
 
 -- ---- opened
-pub how_many : One opened.how_many.Reads.Learnt
-how_many = equation
+pub how_many_lem : One opened.how_many.Reads.Learnt
+how_many_lem = equation
 
-pub room : One opened.room.Reads.Learnt
-room = equation
-
-pub take : Determines opened.take.Reads.Learnt (λ κs r s. s.1.1.0.now)
-take = equation
+pub taken : One opened.taken.Reads.Learnt
+taken = told (λ κs a r s p. sym (take-append-drop (how_many a.1.0) r) ∙ ap₂ ◌++◌ p.front p.behind)
 
 -- ---- ephemeris
 pub tt_to_tdb : One ephemeris.over.OverTt.to_tdb.Reads.Learnt
@@ -240,9 +233,6 @@ tt_to_tdb = equation
 
 pub tdb_to_tt : One ephemeris.over.OverTdb.to_tt.Reads.Learnt
 tdb_to_tt = equation
-
-pub ahead : One ephemeris.over.ahead.Reads.Learnt
-ahead = equation
 
 -- ---- dates
 pub ranged : One dates.reading.ranged.Reads.Learnt

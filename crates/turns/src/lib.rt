@@ -7,7 +7,7 @@ use blocks::answer::Judged;
 use blocks::judging::judge;
 use files::standard::{print, read_input};
 use lines::{answer_last, feed};
-use opened::{how_many, room, take};
+use opened::{how_many, taken};
 
 // What a turn leaves: how many bytes of an unfinished line, and its number; or that the input has
 // ended, or that nothing more can be printed.
@@ -77,8 +77,7 @@ pub fn run_over(bytes: &[u8], text: &mut [u8], out: &mut [u8])
     let judged = judge(bytes);
     match judged {
         Judged::Accepted(table) => {
-            let mut coefficients = room();
-            take(bytes, table, &mut coefficients);
+            let coefficients = taken(bytes, table);
             let many = how_many(table);
             run(text, judged, &coefficients[..many], out);
         }

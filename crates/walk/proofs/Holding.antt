@@ -1,22 +1,18 @@
 -- What a walk asks of the table that is kept holds where none is kept, and of bytes that were
--- judged and accepted; and how far a step back over it leads. Assumes nothing.
-use mathlib.Core.Path.{◌≡◌, refl, subst}
+-- judged and accepted. Assumes nothing.
+use mathlib.Core.Path.{◌≡◌, subst}
 use mathlib.Core.List.{List}
-use Prim.Native.Nat.{ℕ, ◌≤◌, zero-le}
+use Prim.Native.Nat.{ℕ}
 use native.Mathlib.Omega.{arith}
-use lib.IntN.{ℤ, nat_abs}
+use lib.IntN.{ℤ}
 use Rattle.image.specs.declared.table.Table.{Table}
 use Rattle.image.specs.Image.{coefficients_stored}
 use Rattle.granules.specs.Accepted.{Accepted}
 use Rattle.blocks.specs.declared.answer.Judged.TheVariants as J
 use Rattle.blocks.specs.Judging.{judged}
 use Rattle.blocks.proofs.Accepting.{accepted_of}
-use Rattle.ephemeris.specs.Asked.{most_ahead, ahead_of}
-use Rattle.ephemeris.proofs.Promises.{ahead_small}
-use Rattle.walk.specs.declared.kept.Kept.{Kept}
 use Rattle.walk.specs.declared.kept.Kept.TheVariants as K
 use Rattle.walk.specs.Inner.{Held}
-use Rattle.walk.specs.Walk.{to_tt}
 
 pub nothing_held : (coefficients : List ℤ) → Held K.Nothing coefficients
 nothing_held coefficients = record { accepted = λ table e. let z : ◌≡◌ {A = ℕ} 0 1 = cc in let no : ⊥ = omega arith in absurd no }
@@ -29,10 +25,3 @@ accepted_held table coefficients a = record { accepted = λ other e. let same : 
 pub table_held : (bytes : List ℕ) (table : Table) → judged bytes ≡ J.Accepted table
     → Held (K.Table table) (coefficients_stored bytes table.count table.degree)
 table_held bytes table opened = accepted_held _ _ (accepted_of bytes table opened)
-
--- the tick that a step back over it comes to is after the asked by D, or by one more
-pub held_ahead : (kept : Kept) (coefficients : List ℤ) (asked : ℤ) → Held kept coefficients
-    → nat_abs (ahead_of asked (to_tt kept coefficients asked)) ≤ most_ahead
-unfolding ahead_of
-held_ahead K.Nothing coefficients asked h = zero-le
-held_ahead (K.Table table) coefficients asked h = ahead_small table coefficients (h.accepted table refl) asked

@@ -2,7 +2,7 @@
 // struct only inside the step.
 ghost use Rattle.std.specs.Prelude.{◌≡◌};
 ghost use Rattle.walk.specs.Walk.{to_tdb, to_tt};
-ghost use Rattle.walk.specs.Inner.{Held, HeldWith};
+ghost use Rattle.walk.specs.Inner.{Held};
 
 use crate::kept::Kept;
 use ephemeris::over::{OverTdb, OverTt};
@@ -20,13 +20,13 @@ pub fn to_tdb(epoch: Epoch, kept: Kept, coefficients: &[i64]) -> Stepped
     }
 }
 
-// TDB to TT, likewise. The guess at D is where the search begins.
-pub fn to_tt(epoch: Epoch, kept: Kept, coefficients: &[i64], guess: i64) -> Stepped
-    requires { HeldWith kept coefficients.now guess }
+// TDB to TT, likewise.
+pub fn to_tt(epoch: Epoch, kept: Kept, coefficients: &[i64]) -> Stepped
+    requires { Held kept coefficients.now }
     ensures { result ≡ to_tt kept coefficients.now epoch.tick }
 {
     match kept {
         Kept::Nothing => Stepped::OutsideTable,
-        Kept::Table(table) => OverTdb(Tdb(epoch.tick)).to_tt(table, coefficients, guess),
+        Kept::Table(table) => OverTdb(Tdb(epoch.tick)).to_tt(table, coefficients),
     }
 }

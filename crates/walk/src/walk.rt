@@ -30,7 +30,7 @@ fn take_step(step: Step, epoch: Epoch, kept: Kept, coefficients: &[i64]) -> Step
         },
         Step::Back(edge) => match edge {
             Edge::Linear(line) => back(line, epoch),
-            Edge::Table => to_tt(epoch, kept, coefficients, 0),
+            Edge::Table => to_tt(epoch, kept, coefficients),
         },
     }
 }

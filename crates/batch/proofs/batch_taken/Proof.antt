@@ -2,32 +2,19 @@
 -- coefficients. Assumes nothing.
 use borrow.Author.Rules.{rules}
 use mathlib.Core.Path.{sym}
-use native.Mathlib.Omega.{arith}
 use lib.Seq.{length-take-le}
-use Rattle.opened.proofs.Opening.{roomy, front_is}
 use Rattle.walk.proofs.Holding.{table_held}
 use Rattle.batch.proofs.batch_taken.Statement.{statement}
 use Rattle.batch.proofs.batch_taken.Tie as tie
 
-room-requires : tie.Need-room-requires
-room-requires c κs = search rules
-
-slice-aggregate-take : tie.Need-slice-aggregate-take
-slice-aggregate-take c = search rules
-
-take-requires : tie.Need-take-requires
-take-requires c κs = roomy _ _ c.before.before.before.requires.opened.accepted _ (sym (slice-aggregate-take c))
+taken-requires : tie.Need-taken-requires
+taken-requires c κs = search rules
 
 how-many-requires : tie.Need-how-many-requires
 how-many-requires c κs = search rules
 
 array-share-prefix-coefficients : tie.Need-array-share-prefix-coefficients
-array-share-prefix-coefficients c =
-    let h = c.before in
-    let t = h.before.before in
-    let m = t.before.before in
-    let r = roomy _ _ m.before.before.requires.opened.accepted m.room.result (sym (slice-aggregate-take t.before)) in
-    omega (arith, h.how_many.ensures, t.take.auto.1.1.0, r.long)
+array-share-prefix-coefficients c = search rules
 
 slice-aggregate-batch-over : tie.Need-slice-aggregate-batch-over
 slice-aggregate-batch-over c = sym (length-take-le _ _ (array-share-prefix-coefficients c.before))
@@ -35,9 +22,8 @@ slice-aggregate-batch-over c = sym (length-take-le _ _ (array-share-prefix-coeff
 batch-over-requires : tie.Need-batch-over-requires
 batch-over-requires c κs =
     let h = c.before.before in
-    let t = h.before.before in
-    let s = t.before.before.before.before in
-    rw (h.how_many.ensures, t.take.ensures, front_is _ _ _) (record { held = table_held _ _ s.requires.opened.accepted; long = s.requires.long })
+    let s = h.before.before.before in
+    rw (h.how_many_lem.ensures, h.before.taken.ensures.front) (record { held = table_held _ _ s.requires.opened.accepted; long = s.requires.long })
 
 same_length : tie.Need-same-length
 same_length c = search rules
@@ -45,15 +31,13 @@ same_length c = search rules
 returns : tie.Need-returns
 returns c =
     let h = c.before.before.before.before in
-    rw (h.how_many.ensures, h.before.before.take.ensures, front_is _ _ _) at c.before.batch_over.ensures
+    rw (h.how_many_lem.ensures, h.before.taken.ensures.front) at c.before.batch_over.ensures
 
 pub batch_taken_spec : {M : Type 1} → statement M
 batch_taken_spec =
     tie.close
     (tie.spec
-    room-requires
-    slice-aggregate-take
-    take-requires
+    taken-requires
     how-many-requires
     array-share-prefix-coefficients
     slice-aggregate-batch-over

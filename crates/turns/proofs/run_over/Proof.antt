@@ -2,11 +2,10 @@
 -- nothing. Assumes nothing.
 use borrow.Author.Rules.{rules}
 use mathlib.Core.Path.{◌≡◌, sym, ◌∙◌}
-use native.Mathlib.Omega.{arith}
 use lib.Seq.{length-take-le}
 use Rattle.blocks.specs.declared.answer.Judged.TheVariants.{Accepted}
 use Rattle.blocks.specs.Judging.{judged}
-use Rattle.opened.proofs.Opening.{table_lent, lent_refused, roomy, front_is}
+use Rattle.opened.proofs.Opening.{table_lent, lent_refused}
 use Rattle.turns.proofs.run_over.Statement.{statement}
 use Rattle.turns.proofs.run_over.Tie as tie
 
@@ -21,25 +20,14 @@ opened : (k : tie.After-known-told)
     ≡ Accepted k.before.judged.given.0.0
 opened k = sym k.before.before.before.judge.ensures ∙ k.before.judged.given.1
 
-room-requires : tie.Need-room-requires
-room-requires c κs = search rules
-
-slice-aggregate-take : tie.Need-slice-aggregate-take
-slice-aggregate-take c = search rules
-
-take-requires : tie.Need-take-requires
-take-requires c κs = roomy _ _ (opened c.before.before) _ (sym (slice-aggregate-take c))
+taken-requires : tie.Need-taken-requires
+taken-requires c κs = record { accepted = opened c }
 
 how-many-requires : tie.Need-how-many-requires
 how-many-requires c κs = search rules
 
 array-share-prefix-coefficients : tie.Need-array-share-prefix-coefficients
-array-share-prefix-coefficients c =
-    let many = c.before in
-    let t = many.before.before in
-    let m = t.before.before in
-    let r = roomy _ _ (opened m.before) m.room.result (sym (slice-aggregate-take t.before)) in
-    omega (arith, many.how_many.ensures, t.take.auto.1.1.0, r.long)
+array-share-prefix-coefficients c = search rules
 
 slice-aggregate-run : tie.Need-slice-aggregate-run
 slice-aggregate-run c = sym (length-take-le _ _ (array-share-prefix-coefficients c.before))
@@ -47,10 +35,9 @@ slice-aggregate-run c = sym (length-take-le _ _ (array-share-prefix-coefficients
 run-requires : tie.Need-run-requires
 run-requires c κs =
     let many = c.before.before.before in
-    let t = many.before.before in
-    let k = t.before.before.before in
+    let k = many.before.before in
     record {
-      lent = rw (many.how_many.ensures, t.take.ensures, front_is _ _ _) (table_lent _ _ (opened k));
+      lent = rw (many.how_many_lem.ensures, many.before.taken.ensures.front) (table_lent _ _ (opened k));
       large = k.before.before.before.before.before.before.before.requires;
     }
 
@@ -92,9 +79,7 @@ run_over_spec =
     (tie.spec
     judge-requires
     enum-known-judged
-    room-requires
-    slice-aggregate-take
-    take-requires
+    taken-requires
     how-many-requires
     array-share-prefix-coefficients
     slice-aggregate-run

@@ -1,14 +1,15 @@
--- `dates::writing::part_of_day` meets its contract: a day has fewer than 2^52 ticks. Assumes
+-- `dates::writing::part_of_day` meets its contract: a day has fewer than 2^53 ticks. Assumes
 -- nothing.
-use borrow.Author.Rules.{rules}
 use mathlib.Core.Path.{◌≡◌, refl}
+use native.Mathlib.Omega.{arith}
 use lib.IntN.{pos}
 use lib.Ieee.{binary64, of_bits, of_int}
+use Rattle.dates.proofs.Days.{castable}
 use Rattle.dates.proofs.writing.part_of_day.Statement.{statement}
 use Rattle.dates.proofs.writing.part_of_day.Tie as tie
 
-double-of-requires : tie.Need-double-of-requires
-double-of-requires c κs = search rules
+int-to-float-result : tie.Need-int-to-float-result
+int-to-float-result c = castable c.before.args.ticks (omega (arith, c.before.requires))
 
 -- the source's 86,400,000,000,000.0
 day : of_bits binary64 4815374002031689728 ≡ of_int binary64 (pos 86400000000000)
@@ -16,7 +17,7 @@ unfolding of_bits of_int
 day = refl
 
 returns : tie.Need-returns
-returns c = rw (c.double-of.ensures, day)
+returns c = rw day
 
 pub part_of_day_spec : {M : Type 1} → statement M
-part_of_day_spec = tie.close (tie.spec double-of-requires returns)
+part_of_day_spec = tie.close (tie.spec int-to-float-result returns)

@@ -1,42 +1,40 @@
 -- `ephemeris::earliest::earliest_place` meets its contract. The loop's invariant: after each turn
 -- the place is as near to the earliest tick as `Closing` says. The measure is the turns that are
--- left of three. Assumes nothing.
+-- left of two. Assumes nothing.
 use borrow.Author.Rules.{rules}
-use mathlib.Core.Path.{◌≡◌, sym, ◌∙◌, ap}
-use Prim.Native.Nat.{◌+◌, ◌-◌, ◌≤◌, ◌<◌, zero-le}
+use mathlib.Core.Path.{◌≡◌, sym, ◌∙◌}
+use Prim.Native.Nat.{◌+◌, ◌-◌, ◌≤◌, zero-le}
 use native.Mathlib.Numerals.{add-one}
 use native.Mathlib.Omega.{arith}
 use lib.IntN.{ℤ, ◌+ℤ◌, ◌-ℤ◌}
 use Rattle.numbers.proofs.Machine.{read, read_is}
-use Rattle.granule.specs.Rule.{delay_of}
 use Rattle.ephemeris.specs.Table.{S, last_place, table_delay}
 use Rattle.ephemeris.specs.Asked.{held_inside, FromHere}
-use Rattle.ephemeris.proofs.Granules.{delay_is, delay_bounded}
+use Rattle.ephemeris.proofs.Granules.{delay_bounded}
 use Rattle.ephemeris.proofs.Closing.{NearEarliest, reach_after, near_first, near_next, near_fixed, near_last}
-use Rattle.ephemeris.proofs.Staying.{near_steady}
 use Rattle.ephemeris.proofs.earliest.earliest_place.Statement.{statement}
 use Rattle.ephemeris.proofs.earliest.earliest_place.Tie as tie
 
 abbrev invariant-loop : tie.invariant-loop
-invariant-loop table coefficients asked guess place₀ turns₀ place turns = (turns ≤ 3) × NearEarliest table coefficients asked.0 place (reach_after turns)
+invariant-loop table coefficients asked place₀ turns₀ place turns = (turns ≤ 2) × NearEarliest table coefficients asked.0 place (reach_after turns)
 
 abbrev decreases-loop : tie.decreases-loop
-decreases-loop table coefficients asked guess place₀ turns₀ place turns = 3 - turns
+decreases-loop table coefficients asked place₀ turns₀ place turns = 2 - turns
 
 -- D at the place, and what it points to
-D_is : (c : tie.After-delay invariant-loop decreases-loop) → let s = c.before.before.before.before.before in
-    read c.delay.result
-    ≡ table_delay s.args.table s.args.coefficients.now c.before.before.before.loop.place
-D_is c = read_is _ (record { sfits = c.delay.type-inv }) ∙ c.delay.ensures ∙ ap delay_of c.before.value-at.ensures ∙ sym (delay_is _ _ _)
+delay_is : (c : tie.After-delay-at invariant-loop decreases-loop) → let s = c.before.before.before.before in
+    read c.delay-at.result
+    ≡ table_delay s.args.table s.args.coefficients.now c.before.before.loop.place
+delay_is c = read_is _ (record { sfits = c.delay-at.type-inv }) ∙ c.delay-at.ensures
 
 pointed_is : (c : tie.After-pointed2 invariant-loop decreases-loop)
-    → let l = c.before.before.before.before in let s = l.before.before in
+    → let l = c.before.before.before in let s = l.before.before in
     c.pointed2.result
     ≡ held_inside
     (s.args.asked.0 +ℤ table_delay s.args.table s.args.coefficients.now l.loop.place
     -ℤ S s.args.table)
     (last_place s.args.table)
-pointed_is c = rw (D_is c.before) at c.pointed2.ensures
+pointed_is c = rw (delay_is c.before) at c.pointed2.ensures
 
 -- after the last turn
 settled : (c : tie.After-loop invariant-loop decreases-loop) → let s = c.before.before.before in
@@ -44,89 +42,58 @@ settled : (c : tie.After-loop invariant-loop decreases-loop) → let s = c.befor
 settled c =
     let l = c.before in
     let s = l.before.before in
-    let three : l.loop.turns ≡ 3 = omega (arith, l.loop.invariant.0, c.loop-test.false) in
-    near_last s.args.table s.args.coefficients.now s.requires.accepted s.args.asked.0 l.loop.place (rw three at l.loop.invariant.1)
+    let two : l.loop.turns ≡ 2 = omega (arith, l.loop.invariant.0, c.loop-test.false) in
+    near_last s.args.table s.args.coefficients.now s.requires.accepted s.args.asked.0 l.loop.place (rw two at l.loop.invariant.1)
 
 pointed-requires : tie.Need-pointed-requires invariant-loop decreases-loop
-pointed-requires c κs = record {
-  bounds = c.requires.accepted.bounds;
-  movable = record { near = c.requires.movable.near; little = rw (read_is _ c.ranges.guess) c.requires.movable.little };
-}
+pointed-requires c κs = record { bounds = c.requires.accepted.bounds; movable = record { near = c.requires.near; little = zero-le } }
 
 loop-holds : tie.Need-loop-init invariant-loop decreases-loop
 loop-holds c =
     let s = c.before in
-    let here = rw (read_is _ s.ranges.guess) at c.pointed.ensures in
-    let first = near_first s.args.table s.args.coefficients.now s.requires.accepted s.args.asked.0 in
-    (zero-le, rw here (first s.args.guess s.requires.movable.little))
+    (zero-le, rw c.pointed.ensures (near_first s.args.table s.args.coefficients.now s.requires.accepted s.args.asked.0))
 
-value-at-requires : tie.Need-value-at-requires invariant-loop decreases-loop
-value-at-requires c κs = record { accepted = c.before.before.before.requires.accepted; inside = c.before.loop.invariant.1.inside }
-
-delay-requires : tie.Need-delay-requires invariant-loop decreases-loop
-delay-requires c κs = search rules
+delay-at-requires : tie.Need-delay-at-requires invariant-loop decreases-loop
+delay-at-requires c κs = record { accepted = c.before.before.before.requires.accepted; inside = c.before.loop.invariant.1.inside }
 
 pointed-requires-2 : tie.Need-pointed-requires-2 invariant-loop decreases-loop
 pointed-requires-2 c κs =
-    let l = c.before.before.before in
+    let l = c.before.before in
     let s = l.before.before in
     let little = delay_bounded s.args.table s.args.coefficients.now s.requires.accepted l.loop.place l.loop.invariant.1.inside in
-    record { bounds = s.requires.accepted.bounds; movable = record { near = s.requires.movable.near; little = rw (D_is c) (omega (arith, little)) } }
-
-dropped-requires : tie.Need-dropped-requires invariant-loop decreases-loop
-dropped-requires c κs = search rules
-
-steady-requires : tie.Need-steady-requires invariant-loop decreases-loop
-steady-requires c κs = search rules
-
-returns : tie.Need-returns invariant-loop decreases-loop
-returns c =
-    let e = c.before.before in
-    let p = e.before in
-    let l = p.before.before.before.before in
-    let s = l.before.before in
-    let is = rw (e.dropped.ensures, p.before.before.value-at.ensures, pointed_is p) at c.before.steady.ensures in
-    pointed_is p ∙ sym (near_steady s.args.table s.args.coefficients.now s.requires.accepted s.args.asked.0 l.loop.place
-    l.loop.invariant.1.inside (sym is ∙ c.if1.true))
+    record { bounds = s.requires.accepted.bounds; movable = record { near = s.requires.near; little = rw (delay_is c) little } }
 
 this-or-before-requires : tie.Need-this-or-before-requires invariant-loop decreases-loop
 this-or-before-requires c κs =
-    let p = c.before.before.before.before in
-    let l = p.before.before.before.before in
+    let l = c.before.before.before.before in
     let s = l.before.before in
     near_fixed s.args.table s.args.coefficients.now s.requires.accepted s.args.asked.0 l.loop.place
-    (sym (pointed_is p) ∙ c.if2.true) l.loop.invariant.1.inside
+    (sym (pointed_is c.before) ∙ c.if1.true) l.loop.invariant.1.inside
 
-returns-2 : tie.Need-returns-2 invariant-loop decreases-loop
-returns-2 c = c.this-or-before.ensures
-
--- the turn that a place was tried in
-turned : (c : tie.Else2 invariant-loop decreases-loop) → let l = c.before.before.before.before.before.before.before.before in
-    l.loop.turns < 3
-turned c = c.before.before.before.before.before.before.before.loop-test.true
+returns : tie.Need-returns invariant-loop decreases-loop
+returns c = c.this-or-before.ensures
 
 add-turns : tie.Need-overflow-add-turns invariant-loop decreases-loop
-add-turns c = record { fits = omega (arith, turned c) }
+add-turns c = record { fits = omega (arith, c.before.before.before.loop-test.true) }
 
 loop-less : tie.Need-loop-smaller invariant-loop decreases-loop
-loop-less c = omega (arith, turned c)
+loop-less c = omega (arith, c.before.before.before.loop-test.true)
 
 loop-again : tie.Need-loop-preserved invariant-loop decreases-loop
 loop-again c =
-    let p = c.before.before.before.before in
-    let l = p.before.before.before.before in
+    let l = c.before.before.before.before in
     let s = l.before.before in
     let nearer = near_next s.args.table s.args.coefficients.now s.requires.accepted s.args.asked.0 l.loop.turns l.loop.place in
-    (omega (arith, turned c), rw (add-one, pointed_is p) (nearer l.loop.invariant.1))
+    (omega (arith, c.before.before.before.loop-test.true), rw (add-one, pointed_is c.before) (nearer l.loop.invariant.1))
 
 climb-requires : tie.Need-climb-requires invariant-loop decreases-loop
 climb-requires c κs =
     let l = c.before in
-    let none : l.before.loop.place - 1 ≡ 0 = omega (arith, c.if3.true) in
+    let none : l.before.loop.place - 1 ≡ 0 = omega (arith, c.if2.true) in
     rw none at (settled l)
 
-returns-3 : tie.Need-returns-3 invariant-loop decreases-loop
-returns-3 c = c.climb.ensures
+returns-2 : tie.Need-returns-2 invariant-loop decreases-loop
+returns-2 c = c.climb.ensures
 
 sub-climb : tie.Need-overflow-sub-climb invariant-loop decreases-loop
 sub-climb c = search rules
@@ -134,8 +101,8 @@ sub-climb c = search rules
 climb-requires-2 : tie.Need-climb-requires-2 invariant-loop decreases-loop
 climb-requires-2 c κs = settled c.before
 
-returns-4 : tie.Need-returns-4 invariant-loop decreases-loop
-returns-4 c = c.climb2.ensures
+returns-3 : tie.Need-returns-3 invariant-loop decreases-loop
+returns-3 c = c.climb2.ensures
 
 pub earliest_place_spec : {M : Type 1} → statement M
 earliest_place_spec =
@@ -145,19 +112,15 @@ earliest_place_spec =
     decreases-loop
     pointed-requires
     loop-holds
-    value-at-requires
-    delay-requires
+    delay-at-requires
     pointed-requires-2
-    dropped-requires
-    steady-requires
-    returns
     this-or-before-requires
-    returns-2
+    returns
     add-turns
     loop-less
     loop-again
     climb-requires
-    returns-3
+    returns-2
     sub-climb
     climb-requires-2
-    returns-4)
+    returns-3)

@@ -15,8 +15,8 @@ line-all-requires c κs = search rules
 enum_told : tie.Need-enum-told
 enum_told c = search rules
 
-tdb-all-requires : tie.Need-tdb-all-requires
-tdb-all-requires c κs = search rules
+table-all-requires : tie.Need-table-all-requires
+table-all-requires c κs = search rules
 
 enum-known-step-2 : tie.Need-enum-known-step-2
 enum-known-step-2 c = search rules
@@ -30,8 +30,8 @@ line-all-requires-2 c κs = search rules
 enum-told-2 : tie.Need-enum-told-2
 enum-told-2 c = search rules
 
-tt-all-requires : tie.Need-tt-all-requires
-tt-all-requires c κs = search rules
+table-all-requires-2 : tie.Need-table-all-requires-2
+table-all-requires-2 c κs = search rules
 
 same_length : tie.Need-same-length
 same_length c = search rules
@@ -40,7 +40,7 @@ returns : tie.Need-returns
 returns c =
     let e = c.before.before.before.before in
     let s = e.before.before.before in
-    rw (s.step.given.1, e.edge.given.1) c.before.line_all.ensures
+    rw (s.step.given.1, e.edge.given.1) c.before.line-all.ensures
 
 same-length-2 : tie.Need-same-length-2
 same-length-2 c = search rules
@@ -48,7 +48,7 @@ same-length-2 c = search rules
 returns-2 : tie.Need-returns-2
 returns-2 c =
     let e = c.before.before.before in
-    rw (e.before.before.before.step.given.1, e.enum_told.given.1) c.before.tdb-all.ensures
+    rw (e.before.before.before.step.given.1, e.enum_told.given.1) c.before.table-all.ensures
 
 same-length-3 : tie.Need-same-length-3
 same-length-3 c = search rules
@@ -65,7 +65,7 @@ same-length-4 c = search rules
 returns-4 : tie.Need-returns-4
 returns-4 c =
     let e = c.before.before.before in
-    rw (e.before.before.before.step2.given.1, e.enum-told2.given.1) c.before.tt-all.ensures
+    rw (e.before.before.before.step2.given.1, e.enum-told2.given.1) c.before.table-all2.ensures
 
 pub step_all_spec : {M : Type 1} → statement M
 step_all_spec =
@@ -75,12 +75,12 @@ step_all_spec =
     enum-known-edge
     line-all-requires
     enum_told
-    tdb-all-requires
+    table-all-requires
     enum-known-step-2
     enum-known-edge-2
     line-all-requires-2
     enum-told-2
-    tt-all-requires
+    table-all-requires-2
     same_length
     returns
     same-length-2

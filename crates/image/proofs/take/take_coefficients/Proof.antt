@@ -1,99 +1,81 @@
--- `image::take::take_coefficients` meets its contract. The list is right up to the next granule's
--- place. Assumes nothing.
-use Prim.Native.Nat.{◌+◌, ◌*◌, ◌-◌, ◌≤◌, zero-le}
-use Rattle.image.proofs.Back.{granule_same, stored_whole}
-use Rattle.image.proofs.Slots.{index, room, stored_room}
-use Rattle.image.proofs.Stores.{part_more}
-use Rattle.image.specs.Image.{granule_in, coefficients_stored}
+-- `image::take::take_coefficients` meets its contract. Each coefficient taken so far is the one
+-- stored for its granule. Assumes nothing.
+use Prim.Native.Nat.{ℕ, ◌+◌, ◌-◌, ◌/◌, ◌%◌, ◌≤◌, ◌<◌, zero-le}
+use Rattle.numbers.proofs.Places.{is_up_to, written_more}
+use Rattle.image.proofs.Slots.{listed_stored}
+use Rattle.image.specs.Image.{coefficient_at, coefficients_stored}
+use borrow.Author.Count.{below_none}
 use borrow.Author.Rules.{rules}
-use lib.ListN.{length, take, drop, length-take, length-drop}
-use lib.Seq.{take_all}
-use mathlib.Core.Path.{◌≡◌, refl, sym, ◌∙◌, ap}
-use native.Mathlib.Nat.{zero-mul, le_refl}
+use lib.IntN.{pos}
+use lib.ListN.{length, get_or, length-set}
+use mathlib.Core.Path.{◌≡◌, refl, ◌∙◌}
+use mir.Syntax.{w64}
+use mir.ValLaws.{to_z-of_z}
 use native.Mathlib.Omega.{arith}
 use Rattle.image.proofs.take.take_coefficients.Statement.{statement}
 use Rattle.image.proofs.take.take_coefficients.Tie as tie
 
 abbrev invariant-loop : tie.invariant-loop
-invariant-loop bytes count degree coefficients₀ from₀ granule₀ coefficients from granule =
-    (granule ≤ count) × (from ≡ granule * (degree + 1)) × (length coefficients ≡ length coefficients₀)
-    × (take from coefficients ≡ take from (coefficients_stored bytes count degree))
+invariant-loop bytes count degree coefficients₀ i₀ coefficients i =
+    (i ≤ length coefficients) × (length coefficients ≡ length coefficients₀)
+    × ((j : ℕ) → j < i → get_or coefficients j (pos 0) ≡ coefficient_at bytes (j / (degree + 1)) (j % (degree + 1)))
 
 abbrev decreases-loop : tie.decreases-loop
-decreases-loop bytes count degree coefficients₀ from₀ granule₀ coefficients from granule = count - granule
+decreases-loop bytes count degree coefficients₀ i₀ coefficients i = length coefficients₀ - i
 
 loop-holds : tie.Need-loop-init invariant-loop decreases-loop
-loop-holds c = (zero-le, sym (zero-mul _), refl, refl)
+loop-holds c = (zero-le, refl, below_none _)
 
--- the next granule's place ends inside the list
-inside : (c : tie.In-loop invariant-loop decreases-loop)
-    → c.before.loop.from + (c.before.before.before.args.degree + 1)
-    ≤ c.before.before.before.args.count * (c.before.before.before.args.degree + 1)
-inside c =
-    let s = c.before.before.before.args in
-    omega (arith, index s.count s.degree c.before.loop.granule s.degree (omega arith) (le_refl _))
+add-g : tie.Need-overflow-add-g invariant-loop decreases-loop
+add-g c = search rules
 
-add-next : tie.Need-overflow-add-next invariant-loop decreases-loop
-add-next c = search rules
+div-g : tie.Need-nonzero-div-g invariant-loop decreases-loop
+div-g c = search rules
 
-add-next-2 : tie.Need-overflow-add-next-2 invariant-loop decreases-loop
-add-next-2 c = omega (arith, inside c, room _ _ c.before.before.before.requires.bounds)
+add-m : tie.Need-overflow-add-m invariant-loop decreases-loop
+add-m c = search rules
 
-mul-take-granule : tie.Need-overflow-mul-take-granule invariant-loop decreases-loop
-mul-take-granule c = omega (arith, inside c, room _ _ c.before.before.before.requires.bounds)
+rem-m : tie.Need-nonzero-rem-m invariant-loop decreases-loop
+rem-m c = search rules
 
-sub-take-granule : tie.Need-overflow-sub-take-granule invariant-loop decreases-loop
-sub-take-granule c = search rules
+coefficient-requires : tie.Need-coefficient-requires invariant-loop decreases-loop
+coefficient-requires c κs =
+    let s = c.before.before.before in
+    listed_stored _ s.args.count s.args.degree c.before.loop.i s.requires.bounds s.requires.blocks (omega arith)
 
-part-take-granule-start : tie.Need-slice-bounds-take-granule-start invariant-loop decreases-loop
-part-take-granule-start c = search rules
+mul-c : tie.Need-overflow-mul-c invariant-loop decreases-loop
+mul-c c = search rules
 
-part-take-granule-end : tie.Need-slice-bounds-take-granule-end invariant-loop decreases-loop
-part-take-granule-end c = omega (arith, inside c)
+slice-set-from-c : tie.Need-slice-set-from-c invariant-loop decreases-loop
+slice-set-from-c c = search rules
 
-take-granule-requires : tie.Need-take-granule-requires invariant-loop decreases-loop
-take-granule-requires c κs =
-    let l = c.before.before.loop in
-    let s = c.before.before.before.before in
-    record {
-      granule = record { few = omega (arith, s.requires.bounds.granules); long = stored_room _ l.granule _ (omega arith) s.requires.blocks };
-      degree = s.requires.bounds.degree;
-      long = simp (length-take, length-drop) (omega (arith, part-take-granule-end c.before));
-    }
-
-add-granule : tie.Need-overflow-add-granule invariant-loop decreases-loop
-add-granule c = search rules
+add-i : tie.Need-overflow-add-i invariant-loop decreases-loop
+add-i c = search rules
 
 loop-less : tie.Need-loop-smaller invariant-loop decreases-loop
-loop-less c = search rules
+loop-less c = omega arith
 
 loop-again : tie.Need-loop-preserved invariant-loop decreases-loop
-unfolding granule_in
 loop-again c =
-    let i = c.before.before.before in
-    let l = i.before.loop in
-    let s = i.before.before.before.args in
-    let b = s.bytes.now in
-    let whole = coefficients_stored b s.count s.degree in
-    let here = c.before.take-granule.ensures ∙ granule_same b s.count s.degree l.granule (omega arith) in (
-      omega arith,
-      omega arith,
-      c.coefficients.given.1 ∙ l.invariant.2,
-      part_more l.from (s.degree + 1) l.coefficients _ whole (omega (arith, inside i, stored_whole b s.count s.degree)) l.invariant.3
-          (here ∙ ap (λ n. take (s.degree + 1) (drop n whole)) (sym l.invariant.1)),
+    let l = c.before.before.loop in
+    let s = c.before.before.before.before.args in
+    let z = c.coefficient.result in
+    let at = coefficient_at s.bytes.now in (
+      simp length-set (omega arith),
+      simp length-set l.invariant.1,
+      written_more l.coefficients l.i _ (pos 0) (λ j. at (j / (s.degree + 1)) (j % (s.degree + 1))) (slice-set-from-c c) l.invariant.2
+          (to_z-of_z w64 z (record { sfits = c.coefficient.type-inv }) ∙ c.coefficient.ensures),
     )
 
 same_length : tie.Need-same-length invariant-loop decreases-loop
-same_length c = c.before.loop.invariant.2
+same_length c = c.before.loop.invariant.1
 
 returns : tie.Need-returns invariant-loop decreases-loop
+unfolding coefficients_stored
 returns c =
     let l = c.before.loop in
     let s = c.before.before.before in
-    let all = stored_whole s.args.bytes.now s.args.count s.args.degree in
-    let end : l.granule ≡ s.args.count = omega arith in
-    let full : l.from ≡ s.args.count * (s.args.degree + 1) = l.invariant.1 ∙ ap (λ g. g * (s.args.degree + 1)) end in
-    sym (take_all l.from _ (omega (arith, s.requires.long))) ∙ l.invariant.3 ∙ take_all l.from _ (omega (arith, all))
+    is_up_to _ _ (pos 0) _ (l.invariant.1 ∙ s.requires.long) (λ i h. l.invariant.2 i (omega arith))
 
 pub take_coefficients_spec : {M : Type 1} → statement M
 take_coefficients_spec =
@@ -102,14 +84,14 @@ take_coefficients_spec =
     invariant-loop
     decreases-loop
     loop-holds
-    add-next
-    add-next-2
-    mul-take-granule
-    sub-take-granule
-    part-take-granule-start
-    part-take-granule-end
-    take-granule-requires
-    add-granule
+    add-g
+    div-g
+    add-m
+    rem-m
+    coefficient-requires
+    mul-c
+    slice-set-from-c
+    add-i
     loop-less
     loop-again
     same_length

@@ -12,12 +12,7 @@ enum-known-kept : tie.Need-enum-known-kept
 enum-known-kept c = search rules
 
 to-tt-requires : tie.Need-to-tt-requires
-to-tt-requires c κs =
-    let s = c.before.before.before.before in
-    record {
-      accepted = s.requires.held.accepted _ c.before.before.kept.given.1;
-      little = rw (read_is _ s.ranges.guess) s.requires.little;
-    }
+to-tt-requires c κs = c.before.before.before.before.requires.accepted _ c.before.before.kept.given.1
 
 returns : tie.Need-returns
 returns c = search rules

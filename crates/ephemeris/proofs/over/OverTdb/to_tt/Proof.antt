@@ -34,28 +34,23 @@ returns c =
     let s = c.before.before.before in
     let far = sym c.before.near.ensures ∙ not-true _ c.if1.true in
     outside s.args.table s.args.coefficients.now s.args.self.0.0
-    (far_uncovered s.args.table s.args.coefficients.now s.requires.accepted s.args.self.0.0 far)
+    (far_uncovered s.args.table s.args.coefficients.now s.requires s.args.self.0.0 far)
 
 earliest-place-requires : tie.Need-earliest-place-requires
-earliest-place-requires c κs =
-    let s = c.before.before.before in
-    record {
-      accepted = s.requires.accepted;
-      movable = record {
-        near = near_size _ (sym c.before.near.ensures ∙ not-false _ c.if1.false);
-        little = rw (read_is _ s.ranges.guess) s.requires.little;
-      };
-    }
+earliest-place-requires c κs = record {
+  accepted = c.before.before.before.requires;
+  near = near_size _ (sym c.before.near.ensures ∙ not-false _ c.if1.false);
+}
 
 covered-requires : tie.Need-covered-requires
-covered-requires c κs = record { accepted = c.before.before.before.before.requires.accepted; is = c.earliest-place.ensures }
+covered-requires c κs = record { accepted = c.before.before.before.before.requires; is = c.earliest-place.ensures }
 
 tick-at-requires : tie.Need-tick-at-requires
 tick-at-requires c κs =
     let p = c.before.before in
     let s = p.before.before.before.before in
     record {
-      bounds = s.requires.accepted.bounds;
+      bounds = s.requires.bounds;
       inside = rw p.earliest-place.ensures (earliest_inside s.args.table s.args.coefficients.now s.args.self.0.0);
     }
 

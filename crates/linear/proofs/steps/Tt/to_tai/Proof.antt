@@ -1,23 +1,15 @@
--- `linear::steps::Tt::to_tai` meets its contract: its numbers serve. Assumes nothing.
+-- `linear::steps::Tt::to_tai` meets its contract: a mere shift is exact. Assumes nothing.
 use borrow.Author.Rules.{rules}
-use Rattle.numbers.proofs.Machine.{read_is}
-use Rattle.linear.proofs.Methods.{method_is}
+use Rattle.linear.proofs.Methods.{shifted_back}
 use Rattle.linear.proofs.steps.Tt.to_tai.Statement.{statement}
 use Rattle.linear.proofs.steps.Tt.to_tai.Tie as tie
 
-numbers-of-requires : tie.Need-numbers-of-requires
-numbers-of-requires c κs = search rules
-
-nearest-by-requires : tie.Need-nearest-by-requires
-nearest-by-requires c κs =
-    let n = c.before in
-    (rw (read_is _ (record { sfits = c.struct_told.given.0.1 })) n.before.requires, n.Numbers-of.ensures.fitting)
+moved-requires : tie.Need-moved-requires
+moved-requires c κs = search rules
 
 returns : tie.Need-returns
 returns c =
-    let n = c.before.before in
-    method_is _ _ _ _ (record { sfits = c.before.struct_told.given.0.1 }) (record { sfits = c.nearest-by.type-inv })
-    n.before.requires n.Numbers-of.ensures c.nearest-by.ensures
+    shifted_back _ _ (record { sfits = c.before.struct_told.given.0.1 }) (record { sfits = c.moved.type-inv }) 32184000000 c.moved.ensures
 
 pub to_tai_spec : {M : Type 1} → statement M
-to_tai_spec = tie.close (tie.spec numbers-of-requires nearest-by-requires returns)
+to_tai_spec = tie.close (tie.spec moved-requires returns)
