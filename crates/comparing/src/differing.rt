@@ -10,7 +10,7 @@ use image::take::coefficient;
 
 // 'the largest coefficient difference and the sum of the absolute differences', in coefficient
 // units.
-#[derive(Drop)]
+#[derive(Clone, Copy)]
 pub struct Change {
     pub largest: u64,
     pub sum: u64,

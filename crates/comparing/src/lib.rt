@@ -17,7 +17,7 @@ use scales::refusal::Refusal;
 
 // How many granules differ; or the refusal and which table got it, 0 the first and 1 the second, 0
 // where it is of both.
-#[derive(Drop)]
+#[derive(Clone, Copy)]
 pub enum Compared {
     Changes(u64),
     Refused(Refusal, u32),

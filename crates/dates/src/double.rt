@@ -4,7 +4,7 @@ ghost use Rattle.std.specs.Float.Ieee.Scale.{finite};
 ghost use Rattle.dates.specs.Inner.{Apart};
 
 // digits · 2^exponent units of 2^-1075, half of the smallest double above zero.
-#[derive(Drop)]
+#[derive(Clone, Copy)]
 pub struct Parts {
     pub digits: i64,
     pub exponent: u64,

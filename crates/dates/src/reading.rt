@@ -18,7 +18,7 @@ use utc::reading::read;
 
 // 'A reading is a two-part Julian date in days, two doubles; or seconds past J2000, one double; or
 // ticks.' 'A UTC reading is a Modified Julian Day and ticks within the day.'
-#[derive(Drop)]
+#[derive(Clone, Copy)]
 pub enum Reading {
     TwoPart(f64, f64),
     SinceJ2000(f64),
@@ -27,7 +27,7 @@ pub enum Reading {
 }
 
 // 'a two-part Julian date in days, two doubles'
-#[derive(Drop)]
+#[derive(Clone, Copy)]
 pub struct Date {
     pub first: f64,
     pub second: f64,

@@ -3,7 +3,7 @@
 ghost use Rattle.std.specs.Prelude.{◌+ℤ◌};
 ghost use Rattle.dates.specs.Inner.{Spanned, SpanWithin, modest};
 
-#[derive(Drop)]
+#[derive(Clone, Copy)]
 pub struct Span {
     pub units: i64,
     pub rest: i64,

@@ -12,7 +12,7 @@ use scales::refusal::Refusal;
 use scales::tick::valid;
 
 // A date, or refusal 4.
-#[derive(Drop)]
+#[derive(Clone, Copy)]
 pub enum Written {
     Date(Date),
     Refused(Refusal),

@@ -9,7 +9,7 @@ use scales::scale::{Named, Purpose, Scale, scale_of};
 
 // A path that needs no table, or one that crosses TT to TDB, from the first scale to the second; or
 // refusal 1, 8 or 7.
-#[derive(Drop)]
+#[derive(Clone, Copy)]
 pub enum Asked {
     Plain(Scale, Scale),
     Crossing(Scale, Scale),

@@ -2,7 +2,7 @@
 use scales::refusal::Refusal;
 
 // 'An accepted batch answers the path's steps', or a refusal with its index.
-#[derive(Drop)]
+#[derive(Clone, Copy)]
 pub enum Batched {
     Converted(u32),
     Refused(Refusal, u64),

@@ -13,7 +13,7 @@ use scales::scale::Scale;
 use walk::kept::Kept;
 
 // The earliest and the latest tick of a list.
-#[derive(Drop)]
+#[derive(Clone, Copy)]
 struct Ends {
     earliest: i64,
     latest: i64,

@@ -13,11 +13,11 @@ use scales::answer::{Epoch, Stepped, keep};
 use scales::scale::Scale;
 
 // A tick of TT, over a table.
-#[derive(Drop)]
+#[derive(Clone, Copy)]
 pub struct OverTt(pub Tt);
 
 // A tick of TDB, over a table.
-#[derive(Drop)]
+#[derive(Clone, Copy)]
 pub struct OverTdb(pub Tdb);
 
 impl OverTt {

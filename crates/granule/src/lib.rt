@@ -12,7 +12,7 @@ ghost use Rattle.granule.specs.Asked.{InGranule, Factors, Terms, Summable, Evalu
 use pieces::signed::rounded_product;
 
 // Coefficient units: 1/65536 tick.
-#[derive(Drop)]
+#[derive(Clone, Copy)]
 pub struct Units(pub i64);
 
 // u, '2^30·s rounded': 2^31·place / length by three digits, 13, 13 and 5 bits, of which the last is

@@ -8,7 +8,7 @@ use blocks::answer::Judged;
 use scales::refusal::Refusal;
 
 #[repr(C)]
-#[derive(Drop)]
+#[derive(Clone, Copy)]
 pub struct Answer {
     pub number: u32,
     pub steps: u32,
@@ -18,7 +18,7 @@ pub struct Answer {
 }
 
 #[repr(C)]
-#[derive(Drop)]
+#[derive(Clone, Copy)]
 pub struct TableAnswer {
     pub number: u32,
     pub count: u32,

@@ -5,7 +5,7 @@ ghost use Rattle.hosts.specs.Changes.{changes_answer, TablesCompared};
 use comparing::{Compared, compare};
 
 #[repr(C)]
-#[derive(Drop)]
+#[derive(Clone, Copy)]
 pub struct ChangesAnswer {
     pub number: u32,
     pub which: u32,

@@ -6,7 +6,7 @@ ghost use Rattle.hosts.specs.Dates.{date_answer};
 use dates::writing::{Written, write_date};
 
 #[repr(C)]
-#[derive(Drop)]
+#[derive(Clone, Copy)]
 pub struct DateAnswer {
     pub number: u32,
     pub place: u64,

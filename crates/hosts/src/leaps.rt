@@ -13,7 +13,7 @@ use desk::conversion::convert;
 use written::write_utc;
 
 #[repr(C)]
-#[derive(Drop)]
+#[derive(Clone, Copy)]
 pub struct UtcAnswer {
     pub number: u32,
     pub steps: u32,

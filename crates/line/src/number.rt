@@ -7,14 +7,14 @@ ghost use Rattle.line.specs.Scan.{capped, run_from, found_at, digits_at, number_
 
 // The digits at the front of a text: their value, where anything above 2^63 counts as 2^63 + 1, and
 // where they end.
-#[derive(Drop)]
+#[derive(Clone, Copy)]
 pub struct Run {
     pub value: u64,
     pub end: usize,
 }
 
 // A number and where its text ends, or that there is none.
-#[derive(Drop)]
+#[derive(Clone, Copy)]
 pub enum Scanned {
     Number(i64, usize),
     Wrong,

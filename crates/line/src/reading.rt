@@ -7,7 +7,7 @@ use crate::number::{Scanned, number_from};
 use scales::refusal::Refusal;
 
 // The numbers from, to and tick of a line, or refusal 9.
-#[derive(Drop)]
+#[derive(Clone, Copy)]
 pub enum Line {
     Numbers(i64, i64, i64),
     Refused(Refusal),

@@ -12,22 +12,22 @@ use scales::path::Line;
 use scales::scale::Scale;
 use scales::tick::valid;
 
-#[derive(Drop)]
+#[derive(Clone, Copy)]
 pub struct Gps(pub i64);
 
-#[derive(Drop)]
+#[derive(Clone, Copy)]
 pub struct Tai(pub i64);
 
-#[derive(Drop)]
+#[derive(Clone, Copy)]
 pub struct Tt(pub i64);
 
-#[derive(Drop)]
+#[derive(Clone, Copy)]
 pub struct Tcg(pub i64);
 
-#[derive(Drop)]
+#[derive(Clone, Copy)]
 pub struct Tdb(pub i64);
 
-#[derive(Drop)]
+#[derive(Clone, Copy)]
 pub struct Tcb(pub i64);
 
 impl Gps {

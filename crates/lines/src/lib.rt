@@ -20,7 +20,7 @@ use scales::scale::Purpose;
 
 // How far an input is answered: a place in the text and one in the output, and the number of the
 // line that comes next, from 1.
-#[derive(Drop)]
+#[derive(Clone, Copy)]
 pub struct Places {
     pub text: usize,
     pub out: usize,
@@ -29,7 +29,7 @@ pub struct Places {
 
 // The code that a line asks for, and what it is answered with. A line that is not understood asks
 // for none, and none is printed for it.
-#[derive(Drop)]
+#[derive(Clone, Copy)]
 struct Answered {
     to: i64,
     answer: Answer,

@@ -5,6 +5,8 @@
 //
 // Both are rounded to the nearest by a half of the shift's unit that goes in before the product is
 // whole, where there is room for it; the shift then rounds down.
+#![tactic(auto)]
+
 mod product;
 pub mod share;
 mod shift;

@@ -10,7 +10,7 @@ use crate::product::{add, multiply, upper};
 use crate::shift::shifted;
 
 // M = m1·2^64 + m0, and s = 96 + by.
-#[derive(Drop)]
+#[derive(Clone, Copy)]
 pub struct Row {
     pub m1: u64,
     pub m0: u64,

@@ -7,14 +7,14 @@ use crate::scale::Scale;
 use crate::tick::valid;
 
 // A tick of a scale, past Julian date 2443144.5003725 as that scale reads it.
-#[derive(Drop)]
+#[derive(Clone, Copy)]
 pub struct Epoch {
     pub scale: Scale,
     pub tick: i64,
 }
 
 // What a reading says: a valid tick, or a refusal, which 'carries no tick'.
-#[derive(Drop)]
+#[derive(Clone, Copy)]
 pub enum Read {
     Tick(i64),
     Refused(Refusal),
@@ -22,7 +22,7 @@ pub enum Read {
 
 // 'Its answer carries the tick and the number of steps walked (0 to 4)', or it is a refusal, which
 // 'carries no tick'.
-#[derive(Drop)]
+#[derive(Clone, Copy)]
 pub enum Answer {
     Converted(Epoch, u32),
     Refused(Refusal),
@@ -30,7 +30,7 @@ pub enum Answer {
 
 // Where a step comes to: an epoch of the neighbouring scale; or refusal 6, 'outside the table'; or
 // refusal 4, it left the range.
-#[derive(Drop)]
+#[derive(Clone, Copy)]
 pub enum Stepped {
     Reached(Epoch),
     OutsideTable,

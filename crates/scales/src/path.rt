@@ -9,7 +9,7 @@ use crate::scale::Scale;
 
 // The edges that are linear, each from and to as the page writes its equation: 'TAI = GPS + 19 s',
 // 'TT = TAI + 32.184 s', 'TT = TCG − L_G.TCG', 'TDB = TCB − L_B.TCB − 65,500 ticks'.
-#[derive(Drop)]
+#[derive(Clone, Copy)]
 pub enum Line {
     GpsTai,
     TaiTt,
@@ -18,28 +18,28 @@ pub enum Line {
 }
 
 // An edge: a line, or from TT to TDB over the table.
-#[derive(Drop)]
+#[derive(Clone, Copy)]
 pub enum Edge {
     Linear(Line),
     Table,
 }
 
 // A step, from a scale to its neighbour.
-#[derive(Drop)]
+#[derive(Clone, Copy)]
 pub enum Step {
     Along(Edge),
     Back(Edge),
 }
 
 // The next step of a path, or that it is at its end.
-#[derive(Drop)]
+#[derive(Clone, Copy)]
 pub enum Way {
     Here,
     By(Step),
 }
 
 // The scales at the two ends of an edge.
-#[derive(Drop)]
+#[derive(Clone, Copy)]
 struct Ends {
     from: Scale,
     to: Scale,

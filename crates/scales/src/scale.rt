@@ -4,7 +4,7 @@ ghost use Rattle.scales.specs.Scales.{lowest_code, highest_code, is_code, named,
 
 use crate::refusal::Refusal;
 
-#[derive(Drop)]
+#[derive(Clone, Copy)]
 pub enum Scale {
     Gps,
     Tai,
@@ -16,7 +16,7 @@ pub enum Scale {
 
 // What a code is read for: the scale of a date or of ticks in one conversion, of a batch of ticks
 // or of a line of text; or a UTC reading, or a written one.
-#[derive(Drop)]
+#[derive(Clone, Copy)]
 pub enum Purpose {
     Reading,
     Batch,
@@ -25,7 +25,7 @@ pub enum Purpose {
 }
 
 // What a code names.
-#[derive(Drop)]
+#[derive(Clone, Copy)]
 pub enum Named {
     Scale(Scale),
     Refused(Refusal),

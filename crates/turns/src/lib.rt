@@ -11,7 +11,7 @@ use opened::{how_many, taken};
 
 // What a turn leaves: how many bytes of an unfinished line, and its number; or that the input has
 // ended, or that nothing more can be printed.
-#[derive(Drop)]
+#[derive(Clone, Copy)]
 enum Outcome {
     Kept(usize, u64),
     Ended,

@@ -9,14 +9,14 @@ use crate::tai::tai_by;
 use scales::refusal::Refusal;
 
 // 'a Modified Julian Day and ticks within the day'
-#[derive(Drop)]
+#[derive(Clone, Copy)]
 pub struct Utc {
     pub day: i64,
     pub ticks: i64,
 }
 
 // A right reading, or refusal 5.
-#[derive(Drop)]
+#[derive(Clone, Copy)]
 pub enum UtcWritten {
     Utc(Utc),
     Refused(Refusal),

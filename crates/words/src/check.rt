@@ -8,7 +8,7 @@ ghost use Rattle.words.specs.Asked.{Blocks};
 use crate::{pair_at, quad_at};
 
 // The two check words of a block.
-#[derive(Drop)]
+#[derive(Clone, Copy)]
 pub struct Check {
     pub a: u64,
     pub b: u64,

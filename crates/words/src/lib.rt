@@ -1,4 +1,6 @@
 // Numbers in bytes, 'little-endian', and the check of a block.
+#![tactic(auto)]
+
 pub mod check;
 
 ghost use Rattle.std.specs.Prelude.{◌≡◌, ◌+◌, ◌≤◌, ◌<◌, length};

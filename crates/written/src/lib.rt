@@ -11,7 +11,7 @@ use scales::scale::Purpose;
 use utc::writing::{Utc, UtcWritten, write};
 
 // The written reading and how many steps were walked to its TAI tick, or a refusal.
-#[derive(Drop)]
+#[derive(Clone, Copy)]
 pub enum UtcAnswer {
     Written(Utc, u32),
     Refused(Refusal),

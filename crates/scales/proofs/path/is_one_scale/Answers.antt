@@ -1,0 +1,6 @@
+-- `scales::path::is_one_scale` meets its contract. Assumes nothing.
+use borrow.Author.Rules.{rules}
+use Rattle.scales.proofs.path.is_one_scale.Goals as goal
+
+pub returns : goal.returns
+returns c = rw (c.own_code.ensures, c.own_code-2.ensures)

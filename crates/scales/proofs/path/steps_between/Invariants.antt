@@ -1,0 +1,24 @@
+-- `scales::path::steps_between` meets its contract. The steps walked, and the path that is left
+-- from where the walk stands, make up the whole path; the measure is what is left of the longest
+-- path. Assumes nothing.
+use borrow.Author.Rules.{rules}
+use mathlib.Core.Path.{◌≡◌, refl, sym, ◌∙◌, ap}
+use Prim.Native.Nat.{ℕ, suc, ◌+◌, ◌-◌, ◌≤◌, ◌<◌}
+use native.Mathlib.Omega.{arith}
+use lib.ListN.{length}
+use Rattle.scales.specs.declared.scale.Scale.{Scale}
+use Rattle.scales.specs.declared.path.Step.{Step}
+use Rattle.scales.specs.declared.path.Way.TheVariants.{Here, By}
+use Rattle.scales.specs.Path.{next, step_and_rest, path_within, longest_path, steps}
+use Rattle.scales.specs.Rows.{end}
+use Rattle.scales.proofs.path.steps_between.Given as goal
+
+-- what is left of a path, with so many steps walked
+unfoldable pub left : ℕ → Scale → Scale → ℕ
+left n at to = length (path_within (longest_path - n) at to)
+
+abbrev pub invariant-loop-walked : goal.invariant-loop-walked
+invariant-loop-walked l = (l.walked ≤ longest_path) × (l.walked + left l.walked l.at l.to ≡ steps l.initial.at l.to)
+
+abbrev pub decreases-loop-walked : goal.decreases-loop-walked
+decreases-loop-walked l = longest_path - l.walked

@@ -1,0 +1,42 @@
+-- `words::byte_of` meets its contract: in each arm j is a number, at which the definition computes.
+-- Assumes nothing.
+use Prim.Native.Nat.{ℕ, ◌+◌, ◌≤◌, ◌<◌, zero-le}
+use borrow.Author.Rules.{rules}
+use mathlib.Core.Path.{◌≡◌}
+use native.Mathlib.Omega.{arith}
+use Rattle.words.proofs.byte_of.Goals as goal
+
+past : {a j : ℕ} → a ≤ j → (j ≡ a → ⊥) → a + 1 ≤ j
+past h n = omega arith
+
+last : {j : ℕ} → 7 ≤ j → j < 8 → j ≡ 7
+last h k = omega arith
+
+pub returns-in-0 : goal.returns-in-0
+returns-in-0 c = rw c.in-0.is (omega arith)
+
+pub returns-in-1 : goal.returns-in-1
+returns-in-1 c = rw c.in-1.is
+
+pub returns-in-2 : goal.returns-in-2
+returns-in-2 c = rw c.in-2.is
+
+pub returns-in-3 : goal.returns-in-3
+returns-in-3 c = rw c.in-3.is
+
+pub returns-in-4 : goal.returns-in-4
+returns-in-4 c = rw c.in-4.is
+
+pub returns-in-5 : goal.returns-in-5
+returns-in-5 c = rw c.in-5.is
+
+pub returns-in-6 : goal.returns-in-6
+returns-in-6 c = rw c.in-6.is
+
+pub returns-in_default : goal.returns-in_default
+returns-in_default c =
+    let r = c.in_default.in_default-own.rest in
+    let e : c.args.j ≡ 7 =
+    last (past (past (past (past (past (past (past zero-le r.0.0.0.0.0.0.1) r.0.0.0.0.0.1) r.0.0.0.0.1) r.0.0.0.1)
+    r.0.0.1) r.0.1) r.1) c.requires in
+    rw e

@@ -1,0 +1,19 @@
+-- `words::check::lowest_unchecked` meets its contract. Every block passed has its check right.
+-- Assumes nothing.
+use Prim.Native.Nat.{ℕ, ◌-◌, ◌≤◌, ◌<◌, zero-le}
+use Rattle.numbers.proofs.Places.{first_is}
+use Rattle.words.specs.Check.{is_checked}
+use Rattle.words.specs.Words.{block}
+use borrow.Author.Count.{below_none, below_more}
+use borrow.Author.Rules.{rules}
+use borrow.Author.Tests.{not-true, not-false}
+use mathlib.Core.Bool.{true}
+use mathlib.Core.Path.{◌≡◌, sym, ◌∙◌}
+use native.Mathlib.Omega.{arith}
+use Rattle.words.proofs.check.lowest_unchecked.Given as goal
+
+abbrev pub invariant-loop-k : goal.invariant-loop-k
+invariant-loop-k l = (l.k ≤ l.blocks) × ((i : ℕ) → i < l.k → is_checked (block l.bytes i) ≡ true)
+
+abbrev pub decreases-loop-k : goal.decreases-loop-k
+decreases-loop-k l = l.blocks - l.k
