@@ -1,6 +1,8 @@
 // One granule of a table: its value at a tick in fixed point, as 01's 'The granule rule' says, and
 // the tests 14 to 16 of its coefficients. A granule's coefficients are lent as a slice, c_0 first,
 // as many as the degree plus one; a coefficient becomes `Units` where it is taken out.
+#![tactic(auto)]
+
 ghost use Rattle.std.specs.Prelude.{◌≡◌, ◌^◌, ℤ, pos, nat_abs, ◌+ℤ◌, ◌-ℤ◌, ◌*ℤ◌};
 ghost use Rattle.std.specs.Int.Signed.{le_z};
 ghost use Rattle.numbers.specs.Rounding.{nearest};

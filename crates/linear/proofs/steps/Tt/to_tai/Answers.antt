@@ -1,0 +1,7 @@
+-- `linear::steps::Tt::to_tai` meets its contract: a mere shift is exact. Assumes nothing.
+use borrow.Author.Rules.{rules}
+use Rattle.linear.proofs.Methods.{shifted_back}
+use Rattle.linear.proofs.steps.Tt.to_tai.Goals as goal
+
+pub returns : goal.returns
+returns c = shifted_back _ _ (record { sfits = c.struct_told-1.given.0.1 }) (record { sfits = c.moved.type_inv }) 32184000000 c.moved.ensures
