@@ -1,5 +1,7 @@
 // The form of a block: which bytes are free, and what the others are. A fixed byte that is wrong is
 // test 12's.
+#![tactic(auto)]
+
 ghost use Rattle.std.specs.Prelude.{◌≡◌, ◌*◌, ◌+◌, ◌≤◌, ◌<◌, eqb, length};
 ghost use Rattle.words.specs.Words.{block, from};
 ghost use Rattle.form.specs.Form.{head_byte, is_number, granules_in, is_coefficient};

@@ -11,8 +11,8 @@ use mathlib.Core.Bool.{true, false}
 use mathlib.Core.Path.{◌≡◌, sym, ◌∙◌, ap}
 use native.Mathlib.Nat.{not-suc-le-zero}
 use native.Mathlib.Omega.{arith}
-use Rattle.form.proofs.free_from.Statement.{statement}
-use Rattle.form.proofs.free_from.Tie as tie
+use Rattle.form.proofs.free_from.Goals as goal
+use Rattle.form.proofs.free_from.Goals.{Else-k-eq0, Start}
 
 none : (G n k j : ℕ) → is_free G n k j ≡ false → j < 508 → FreeRun G n k j 0
 none G n k j e h = record { free = λ i l. absurd (not-suc-le-zero l); fixed = λ _. e; inside = omega arith }
@@ -37,60 +37,36 @@ rest G n k j s o few =
     within j r h = omega arith
 
 -- past both tests the byte is a coefficient's
-abbrev start : tie.Else2 → tie.Start
+abbrev start : Else-k-eq0 → Start
 start c = c.before.before.before
 
-slot : (c : tie.Else2) → Slot (start c).args.count (start c).args.degree (start c).args.k (start c).args.j
+slot : (c : Else-k-eq0) → Slot (start c).args.count (start c).args.degree (start c).args.k (start c).args.j
 slot c =
-    let e = c.before in
-    let s = e.before.before.args in
-    slot_told s.count s.degree s.k s.j
-    (sym (free_more s.count s.degree s.k s.j c.if2.false) ∙ sym e.before.is_free.ensures ∙ not-false _ e.if1.false)
+    slot_told c.args.count c.args.degree c.args.k c.args.j
+    (sym (free_more c.args.count c.args.degree c.args.k c.args.j c.if-k-eq0.false) ∙ sym c.is_free.ensures ∙ c.if-not-is_free.false)
 
-is-free-requires : tie.Need-is-free-requires
-is-free-requires c κs = search rules
+pub returns-then-not-is_free : goal.returns-then-not-is_free
+returns-then-not-is_free c = none c.args.count c.args.degree c.args.k c.args.j (sym c.is_free.ensures ∙ c.if-not-is_free.true) c.requires.place
 
-returns : tie.Need-returns
+pub returns-then-k-eq0 : goal.returns-then-k-eq0
+returns-then-k-eq0 c = one c.args.count c.args.degree c.args.k c.args.j (sym c.is_free.ensures ∙ c.if-not-is_free.false) c.requires.place
+
+pub overflow_sub-result : goal.overflow_sub-result
+overflow_sub-result c = (slot c).low
+
+pub overflow_sub-result-2 : goal.overflow_sub-result-2
+overflow_sub-result-2 c = (slot c).which
+
+pub overflow_mul-result : goal.overflow_mul-result
+overflow_mul-result c = omega arith
+
+pub overflow_add-result : goal.overflow_add-result
+overflow_add-result c = omega arith
+
+pub overflow_sub-result-3 : goal.overflow_sub-result-3
+overflow_sub-result-3 c = omega arith
+
+pub returns : goal.returns
 returns c =
-    let s = c.before.before in
-    none s.args.count s.args.degree s.args.k s.args.j (sym c.before.is_free.ensures ∙ not-true _ c.if1.true) s.requires.place
-
-returns-2 : tie.Need-returns-2
-returns-2 c =
-    let e = c.before in
-    let s = e.before.before in
-    one s.args.count s.args.degree s.args.k s.args.j (sym e.before.is_free.ensures ∙ not-false _ e.if1.false) s.requires.place
-
-sub-result : tie.Need-overflow-sub-result
-sub-result c = (slot c).low
-
-sub-result-2 : tie.Need-overflow-sub-result-2
-sub-result-2 c = (slot c).which
-
-mul-result : tie.Need-overflow-mul-result
-mul-result c = omega arith
-
-add-result : tie.Need-overflow-add-result
-add-result c = omega arith
-
-sub-result-3 : tie.Need-overflow-sub-result-3
-sub-result-3 c = omega arith
-
-returns-3 : tie.Need-returns-3
-returns-3 c =
     let s = start c in
-    rest s.args.count s.args.degree s.args.k s.args.j (slot c) c.if2.false s.pre.bounds.degree
-
-pub free_from_spec : {M : Type 1} → statement M
-free_from_spec =
-    tie.close
-    (tie.spec
-    is-free-requires
-    returns
-    returns-2
-    sub-result
-    sub-result-2
-    mul-result
-    add-result
-    sub-result-3
-    returns-3)
+    rest s.args.count s.args.degree s.args.k s.args.j (slot c) c.if-k-eq0.false s.requires.bounds.degree

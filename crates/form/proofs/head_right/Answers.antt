@@ -15,8 +15,7 @@ use mathlib.Core.List.{List}
 use mathlib.Core.Path.{◌≡◌, refl, sym, ◌∙◌, ap}
 use native.Mathlib.Nat.{add-zero}
 use native.Mathlib.Omega.{arith}
-use Rattle.form.proofs.head_right.Statement.{statement}
-use Rattle.form.proofs.head_right.Tie as tie
+use Rattle.form.proofs.head_right.Goals as goal
 
 -- the head of block k, which holds h granules, in one word
 abbrev head_word : ℕ → ℕ → ℕ
@@ -68,54 +67,8 @@ module _ (G k h : ℕ) (some : 1 ≤ k) (low : k < 256) (e : h ≡ granules_in G
             (ap (λ i. get_or b i 0) (sym (add-zero (k * 512))) ∙ each q 0 (omega arith)) (each q)))
         go false p false q = sym q
 
-held-in-requires : tie.Need-held-in-requires
-held-in-requires c κs = search rules
-
-wide-requires : tie.Need-wide-requires
-wide-requires c κs = search rules
-
-mul-word-at : tie.Need-overflow-mul-word-at
-mul-word-at c = search rules
-
-word-at-requires : tie.Need-word-at-requires
-word-at-requires c κs = search rules
-
-add-result : tie.Need-overflow-add-result
-add-result c = search rules
-
-mul-result : tie.Need-overflow-mul-result
-mul-result c = search rules
-
-add-result-2 : tie.Need-overflow-add-result-2
-add-result-2 c = search rules
-
-mul-result-2 : tie.Need-overflow-mul-result-2
-mul-result-2 c = search rules
-
-add-result-3 : tie.Need-overflow-add-result-3
-add-result-3 c = search rules
-
-returns : tie.Need-returns
+pub returns : goal.returns
 returns c =
-    let w = c.before in
-    let h = w.before in
-    let k = h.before in
-    let s = k.before in
-    head_is s.args.count s.args.k _ s.requires.block.other (omega (arith, s.requires.block.full, s.requires.block.few))
-    (w.wide.ensures.0 ∙ h.held_in.ensures) w.wide.ensures.1 s.args.bytes.now (λ i. (k.shared-slice-known.given i).fits) _
+    head_is c.args.count c.args.k _ c.requires.block.other (omega (arith, c.requires.block.full, c.requires.block.few))
+    (c.wide-granules.ensures.0 ∙ c.held_in.ensures) c.wide-granules.ensures.1 c.args.bytes.now (λ i. (c.type_inv.bytes i).fits) _
     c.word_at.ensures
-
-pub head_right_spec : {M : Type 1} → statement M
-head_right_spec =
-    tie.close
-    (tie.spec
-    held-in-requires
-    wide-requires
-    mul-word-at
-    word-at-requires
-    add-result
-    mul-result
-    add-result-2
-    mul-result-2
-    add-result-3
-    returns)

@@ -1,0 +1,25 @@
+-- `form::lowest_unformed` meets its contract. Outside: every block passed is formed. Inside: every
+-- byte passed is right. Assumes nothing.
+use Prim.Native.Nat.{ℕ, ◌+◌, ◌-◌, ◌≤◌, ◌<◌, zero-le}
+use Rattle.numbers.proofs.Places.{first_is, every_is, every_not}
+use Rattle.form.specs.Asked.{RightRun}
+use Rattle.form.specs.Form.{is_formed, is_right}
+use Rattle.words.specs.Words.{block}
+use borrow.Author.Count.{below_none, below_more}
+use mathlib.Core.Bool.{true, false}
+use mathlib.Core.Path.{◌≡◌, refl, ◌∙◌, subst}
+use native.Mathlib.Decide.{dec_lt}
+use native.Mathlib.Omega.{arith}
+use Rattle.form.proofs.lowest_unformed.Given as goal
+
+abbrev pub invariant-loop-j : goal.invariant-loop-j
+invariant-loop-j l = (l.found ≡ l.blocks) × (l.j ≤ 508) × ((i : ℕ) → i < l.j → is_right l.count l.degree l.k (block l.bytes l.k) i ≡ true)
+
+abbrev pub decreases-loop-j : goal.decreases-loop-j
+decreases-loop-j l = 508 - l.j
+
+abbrev pub invariant-blocks-2 : goal.invariant-blocks-2
+invariant-blocks-2 l = (l.found ≡ l.blocks) × (l.k ≤ l.blocks) × ((i : ℕ) → i < l.k → is_formed l.count l.degree i (block l.bytes i) ≡ true)
+
+abbrev pub decreases-blocks-2 : goal.decreases-blocks-2
+decreases-blocks-2 l = l.blocks - l.k

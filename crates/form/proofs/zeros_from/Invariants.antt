@@ -1,0 +1,15 @@
+-- `form::zeros_from` meets its contract: what makes up 0 is 0, byte by byte. Assumes nothing.
+use Prim.Native.Nat.{ℕ, ◌-◌, ◌≤◌, ◌<◌, zero-le}
+use Rattle.words.proofs.Digits.{zero_word, zero_quad, zero_more}
+use Rattle.words.specs.Words.{from}
+use borrow.Author.Count.{below_none}
+use borrow.Author.Tests.{eqb-true}
+use mathlib.Core.Path.{◌≡◌, sym, ◌∙◌}
+use native.Mathlib.Omega.{arith}
+use Rattle.form.proofs.zeros_from.Given as goal
+
+abbrev pub invariant-loop-zeros : goal.invariant-loop-zeros
+invariant-loop-zeros l = (l.zeros ≤ l.left) × ((u : ℕ) → u < l.zeros → from l.bytes l.at u ≡ 0)
+
+abbrev pub decreases-loop-zeros : goal.decreases-loop-zeros
+decreases-loop-zeros l = l.left - l.zeros
