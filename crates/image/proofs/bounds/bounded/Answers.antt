@@ -30,14 +30,11 @@ not_short c = rw (length_back (goal.at.Else-length-lt-SHORTEST_LENGTH c).Else-ta
 not_long : (c : Else-length-gt-LONGEST_LENGTH) → lt_z (pos longest_length) (table1 (goal.at.Else-length-gt-LONGEST_LENGTH c).Else-table-gt-MOST_DEGREE).length ≡ false
 not_long c = rw (length_back (goal.at.Else-length-gt-LONGEST_LENGTH c).Else-table-gt-MOST_DEGREE) at c.if-length-gt-LONGEST_LENGTH.false
 
-abbrev third : Else-table-gt-MOST_GRANULES → Else-length-gt-LONGEST_LENGTH
-third c = c.before.before.before.before
-
 abbrev table5 : Else-table-gt-MOST_GRANULES → Table
-table5 c = table1 (third c).before.before
+table5 c = c.args.table
 
 abbrev table6 : Else-not-valid → Table
-table6 c = table5 c.before.before.before
+table6 c = c.args.table
 
 start_back : (c : After-struct_told-2-1)
     → to_z w64 (of_z w64 (table5 (goal.at.After-struct_told-2-1 c).Else-table-gt-MOST_GRANULES).start.0) ≡ (table5 (goal.at.After-struct_told-2-1 c).Else-table-gt-MOST_GRANULES).start.0
@@ -54,13 +51,13 @@ span_here : (c : Else-not-valid)
     → SFits w64 (pos (table6 c).count *ℤ (table6 c).length)
 span_here c =
     let t = table5 (goal.at.Else-not-valid c).Else-table-gt-MOST_GRANULES in
-    span_fits t.count t.length t.start.0 c.if-table-gt-MOST_GRANULES.false (lt_no _ _ (not_short (third (goal.at.Else-not-valid c).Else-table-gt-MOST_GRANULES).before)) (lt_no _ _ (not_long (third (goal.at.Else-not-valid c).Else-table-gt-MOST_GRANULES)))
+    span_fits t.count t.length t.start.0 c.if-table-gt-MOST_GRANULES.false (lt_no _ _ (not_short (goal.at.Else-not-valid c).Else-length-lt-SHORTEST_LENGTH)) (lt_no _ _ (not_long (goal.at.Else-not-valid c).Else-length-gt-LONGEST_LENGTH))
 
 end_here : (c : Else-not-valid)
     → SFits w64 ((table6 c).start.0 +ℤ pos (table6 c).count *ℤ (table6 c).length)
 end_here c =
     let t = table5 (goal.at.Else-not-valid c).Else-table-gt-MOST_GRANULES in
-    end_fits t.count t.length t.start.0 c.if-table-gt-MOST_GRANULES.false (lt_no _ _ (not_short (third (goal.at.Else-not-valid c).Else-table-gt-MOST_GRANULES).before)) (lt_no _ _ (not_long (third (goal.at.Else-not-valid c).Else-table-gt-MOST_GRANULES))) (start_valid c)
+    end_fits t.count t.length t.start.0 c.if-table-gt-MOST_GRANULES.false (lt_no _ _ (not_short (goal.at.Else-not-valid c).Else-length-lt-SHORTEST_LENGTH)) (lt_no _ _ (not_long (goal.at.Else-not-valid c).Else-length-gt-LONGEST_LENGTH)) (start_valid c)
 
 pub returns-then-table-gt-MOST_DEGREE : goal.returns-then-table-gt-MOST_DEGREE
 returns-then-table-gt-MOST_DEGREE c = high_degree c.args.table c.if-table-gt-MOST_DEGREE.true
@@ -79,19 +76,17 @@ returns-then-table-gt-MOST_GRANULES c = too_many (table1 (goal.at.returns-then-t
 
 pub returns-then-not-valid : goal.returns-then-not-valid
 returns-then-not-valid c =
-    let e = third (goal.at.returns-then-not-valid c).Else-table-gt-MOST_GRANULES in
-    start_outside (table5 (goal.at.returns-then-not-valid c).Else-table-gt-MOST_GRANULES) e.if-table-gt-MOST_DEGREE.left (not_short e.before) (not_long e) c.if-table-lt1.false c.if-table-gt-MOST_GRANULES.false
+    start_outside (table5 (goal.at.returns-then-not-valid c).Else-table-gt-MOST_GRANULES) c.if-table-gt-MOST_DEGREE.false (not_short (goal.at.returns-then-not-valid c).Else-length-lt-SHORTEST_LENGTH) (not_long (goal.at.returns-then-not-valid c).Else-length-gt-LONGEST_LENGTH) c.if-table-lt1.false c.if-table-gt-MOST_GRANULES.false
     (rw (start_back (goal.at.returns-then-not-valid c).After-struct_told-2-1) at (sym c.valid.ensures ∙ c.if-not-valid.true))
 
 pub overflow_mul-count : goal.overflow_mul-count
-overflow_mul-count c = rw (count_back c, length_back (third (goal.at.overflow_mul-count c).Else-table-gt-MOST_GRANULES).before.before) (span_here c)
+overflow_mul-count c = rw (count_back c, length_back (goal.at.overflow_mul-count c).Else-table-gt-MOST_DEGREE) (span_here c)
 
 pub overflow_add-start : goal.overflow_add-start
-overflow_add-start c = rw (start_back (goal.at.overflow_add-start c).After-struct_told-2-1, count_back (goal.at.overflow_add-start c).Else-not-valid, length_back (third (goal.at.overflow_add-start c).Else-table-gt-MOST_GRANULES).before.before, to_z-of_z w64 _ (span_here (goal.at.overflow_add-start c).Else-not-valid)) (end_here (goal.at.overflow_add-start c).Else-not-valid)
+overflow_add-start c = rw (start_back (goal.at.overflow_add-start c).After-struct_told-2-1, count_back (goal.at.overflow_add-start c).Else-not-valid, length_back (goal.at.overflow_add-start c).Else-table-gt-MOST_DEGREE, to_z-of_z w64 _ (span_here (goal.at.overflow_add-start c).Else-not-valid)) (end_here (goal.at.overflow_add-start c).Else-not-valid)
 
 pub returns : goal.returns
 returns c =
-    let e = third (goal.at.returns c).Else-table-gt-MOST_GRANULES in
-    let told = rw (start_back (goal.at.returns c).After-struct_told-2-1, count_back (goal.at.returns c).Else-not-valid, length_back e.before.before) at c.valid-2.ensures in
+    let told = rw (start_back (goal.at.returns c).After-struct_told-2-1, count_back (goal.at.returns c).Else-not-valid, length_back (goal.at.returns c).Else-table-gt-MOST_DEGREE) at c.valid-2.ensures in
     rw (to_z-of_z w64 _ (span_here (goal.at.returns c).Else-not-valid), to_z-of_z w64 _ (end_here (goal.at.returns c).Else-not-valid)) at told
-    ∙ end_told (table5 (goal.at.returns c).Else-table-gt-MOST_GRANULES) e.if-table-gt-MOST_DEGREE.left (not_short e.before) (not_long e) c.if-table-lt1.false c.if-table-gt-MOST_GRANULES.false (start_valid (goal.at.returns c).Else-not-valid)
+    ∙ end_told (table5 (goal.at.returns c).Else-table-gt-MOST_GRANULES) c.if-table-gt-MOST_DEGREE.false (not_short (goal.at.returns c).Else-length-lt-SHORTEST_LENGTH) (not_long (goal.at.returns c).Else-length-gt-LONGEST_LENGTH) c.if-table-lt1.false c.if-table-gt-MOST_GRANULES.false (start_valid (goal.at.returns c).Else-not-valid)

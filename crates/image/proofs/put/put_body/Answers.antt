@@ -13,7 +13,7 @@ loop-j-init c = (zero-le, put_none _ _ _)
 pub loop-j-preserved : goal.loop-j-preserved
 loop-j-preserved c =
     let l = c.loop-j in
-    (search rules, put_more _ _ _ _ _ _ l.invariant.1 (slice-write-image c) c.body_byte-byte.ensures)
+    (search rules, put_more _ _ _ _ _ _ l.invariant.1 (search rules) c.body_byte-byte.ensures)
 
 pub shape_of-image : goal.shape_of-image
 shape_of-image c = c.loop-j.invariant.1.long

@@ -28,7 +28,7 @@ loop-i-preserved c =
     let at = coefficient_at c.args.bytes.now in (
       simp length-set (omega arith),
       simp length-set l.invariant.1,
-      written_more l.coefficients l.i _ (pos 0) (λ j. at (j / (c.args.degree + 1)) (j % (c.args.degree + 1))) (slice-set-from-c c) l.invariant.2
+      written_more l.coefficients l.i _ (pos 0) (λ j. at (j / (c.args.degree + 1)) (j % (c.args.degree + 1))) (omega arith) l.invariant.2
           (to_z-of_z w64 z (record { sfits = c.coefficient-c.type_inv }) ∙ c.coefficient-c.ensures),
     )
 
