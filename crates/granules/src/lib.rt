@@ -2,6 +2,8 @@
 // blocks before the next': the tests have their rank, and what is told is the lowest rank at which
 // a granule fails, with the lowest such granule. A coefficient beyond 2^40 is of the lowest rank
 // there is and ends the pass, so that the sums of every granule passed fit 64 bits.
+#![tactic(auto)]
+
 ghost use Rattle.std.specs.Prelude.{◌≡◌};
 ghost use Rattle.granule.specs.Asked.{Summable};
 ghost use Rattle.image.specs.Asked.{WholeTable};
@@ -16,14 +18,14 @@ use image::take::stored;
 use scales::refusal::Refusal;
 
 // What the tests of the coefficients tell.
-#[derive(Clone, Copy)]
+#[derive(Drop)]
 pub enum Tested {
     Passed,
     Refused(Refusal),
 }
 
 // What the pass keeps: the lowest rank so far with its granule, and the plain sum of the last one.
-#[derive(Clone, Copy)]
+#[derive(Drop)]
 pub struct Scan {
     pub rank: usize,
     pub place: usize,
@@ -31,7 +33,7 @@ pub struct Scan {
 }
 
 // The granule fails the first test, or the pass goes on.
-#[derive(Clone, Copy)]
+#[derive(Drop)]
 pub enum Next {
     Lowest,
     Onward(Scan),

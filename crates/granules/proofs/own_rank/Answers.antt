@@ -12,8 +12,7 @@ use lib.ListN.{length}
 use mathlib.Core.Bool.{Bool, false, not}
 use mathlib.Core.List.{List}
 use mathlib.Core.Path.{◌≡◌, sym, ◌∙◌, ap}
-use Rattle.granules.proofs.own_rank.Statement.{statement}
-use Rattle.granules.proofs.own_rank.Tie as tie
+use Rattle.granules.proofs.own_rank.Goals as goal
 
 -- test 14 has passed
 summable : {cs : List ℤ} (answer : Bool) → answer ≡ is_small cs → length cs ≤ most_degree + 1
@@ -26,24 +25,14 @@ of_weight sum weight H answer e same = e ∙ ap (λ (w : ℕ). is_light w H) sam
 
 ruleset ranked = (ranks, of_weight)
 
-small-requires : tie.Need-small-requires
-small-requires c κs = search rules
+pub returns-then-not-small : goal.returns-then-not-small
+returns-then-not-small c = search ranked depth 9 fits 9000
 
-returns : tie.Need-returns
+pub weight-requires : goal.weight-requires
+weight-requires c = search summable
+
+pub returns-then-not-light : goal.returns-then-not-light
+returns-then-not-light c = search ranked depth 9 fits 9000
+
+pub returns : goal.returns
 returns c = search ranked depth 9 fits 9000
-
-weight-requires : tie.Need-weight-requires
-weight-requires c κs = search summable
-
-light-requires : tie.Need-light-requires
-light-requires c κs = search rules
-
-returns-2 : tie.Need-returns-2
-returns-2 c = search ranked depth 9 fits 9000
-
-returns-3 : tie.Need-returns-3
-returns-3 c = search ranked depth 9 fits 9000
-
-pub own_rank_spec : {M : Type 1} → statement M
-own_rank_spec =
-    tie.close (tie.spec small-requires returns weight-requires light-requires returns-2 returns-3)

@@ -9,8 +9,7 @@ use Rattle.numbers.specs.Tests.{numbers_of, over}
 use borrow.Author.Rules.{rules}
 use lib.ListN.{get_or}
 use mathlib.Core.List.{List, []}
-use Rattle.granules.proofs.told.Statement.{statement}
-use Rattle.granules.proofs.told.Tie as tie
+use Rattle.granules.proofs.told.Goals as goal
 
 -- the same whatever the rules are over
 abbrev numbers : List ℕ
@@ -22,17 +21,8 @@ is_passed r place h = record { is = λ H granule. told_none tested_refused Passe
 is_refused : (r place : ℕ) → r < none_rank → RankTold r place (tested_refused (get_or numbers r 0) place)
 is_refused r place h = record { is = λ H granule. told_rule tested_refused Passed (granule_rules H granule) r place h }
 
-returns : tie.Need-returns
-returns c = is_passed _ _ c.if1.true
+pub returns-then-rank-ge-NONE : goal.returns-then-rank-ge-NONE
+returns-then-rank-ge-NONE c = is_passed _ _ c.if-rank-ge-NONE.true
 
-mul-number : tie.Need-overflow-mul-number
-mul-number c = search rules
-
-array-read-number : tie.Need-array-read-number
-array-read-number c = search rules
-
-returns-2 : tie.Need-returns-2
-returns-2 c = is_refused _ _ (search rules)
-
-pub told_spec : {M : Type 1} → statement M
-told_spec = tie.close (tie.spec returns mul-number array-read-number returns-2)
+pub returns : goal.returns
+returns c = is_refused _ _ (search rules)

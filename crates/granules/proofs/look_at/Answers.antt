@@ -14,8 +14,8 @@ use borrow.Author.Tests.{eq-eqb, ne_eqb, lt-ltb, le-ltb}
 use lib.IntN.{ℤ}
 use mathlib.Core.List.{List}
 use mathlib.Core.Path.{◌≡◌, sym, ◌∙◌, ap}
-use Rattle.granules.proofs.look_at.Statement.{statement}
-use Rattle.granules.proofs.look_at.Tie as tie
+use Rattle.granules.proofs.look_at.Goals as goal
+use Rattle.granules.proofs.look_at.Goals.{Else-own-eq0}
 
 -- the granule has been looked at: its rank is r, its plain sum x
 module _ (scan : Scan) (g H own : ℕ) (l : List ℤ) (r : ℕ) (x : Units) (e : own ≡ rank (own_rules H) l)
@@ -32,45 +32,29 @@ module _ (scan : Scan) (g H own : ℕ) (l : List ℤ) (r : ℕ) (x : Units) (e :
   unfolding scan_next scan_after
   still h = rw (ne_eqb (rank (own_rules H) l) 0 n, ← ranked, le-ltb r scan.rank h, ← p)
 
-own_some : (c : tie.Else1)
-    → rank (own_rules c.before.before.args.length) c.before.before.args.coefficients.now ≡ 0 → ⊥
-own_some c e = c.if1.false (c.before.own-rank.ensures ∙ e)
+own_some : (c : Else-own-eq0)
+    → rank (own_rules c.args.length) c.args.coefficients.now ≡ 0 → ⊥
+own_some c e = c.if-own-eq0.false (c.own_rank-own.ensures ∙ e)
 
-summable : (c : tie.Else1) → Summable c.before.before.args.coefficients.now
-summable c = record { few = c.before.before.requires.short; small = own_small c.before.before.args.length _ (own_some c) }
+summable : (c : Else-own-eq0) → Summable c.args.coefficients.now
+summable c = record { few = c.requires.short; small = own_small c.args.length _ (own_some c) }
 
-own-rank-requires : tie.Need-own-rank-requires
-own-rank-requires c κs = search rules
-
-returns : tie.Need-returns
+pub returns-then-own-eq0 : goal.returns-then-own-eq0
 unfolding scan_next
-returns c = rw (eq-eqb _ _ (sym c.before.own-rank.ensures ∙ c.if1.true))
+returns-then-own-eq0 c = rw (eq-eqb _ _ (sym c.own_rank-own.ensures ∙ c.if-own-eq0.true))
 
-rank-of-requires : tie.Need-rank-of-requires
-rank-of-requires c κs = summable c.before
+pub rank_of-rank-requires : goal.rank_of-rank-requires
+rank_of-rank-requires c = summable (goal.at.rank_of-rank-requires c).Else-own-eq0
 
-plain-requires : tie.Need-plain-requires
-plain-requires c κs = summable c.before.before
+pub plain-sum-requires : goal.plain-sum-requires
+plain-sum-requires c = summable (goal.at.plain-sum-requires c).Else-own-eq0
 
-returns-2 : tie.Need-returns-2
-returns-2 c =
-    let p = c.before.before in
-    let r = p.before in
-    let e = r.before.before in
-    let s = e.before.before.args in
-    lower s.scan s.g s.length _ s.coefficients.now _ _ e.before.own-rank.ensures (own_some e) r.rank-of.ensures p.plain.ensures
-    c.if2.true
+pub returns-then-rank-scan : goal.returns-then-rank-scan
+returns-then-rank-scan c =
+    lower c.args.scan c.args.g c.args.length _ c.args.coefficients.now _ _ c.own_rank-own.ensures (own_some (goal.at.returns-then-rank-scan c).Else-own-eq0) c.rank_of-rank.ensures c.plain-sum.ensures
+    c.if-rank-scan.true
 
-returns-3 : tie.Need-returns-3
-returns-3 c =
-    let p = c.before.before in
-    let r = p.before in
-    let e = r.before.before in
-    let s = e.before.before.args in
-    still s.scan s.g s.length _ s.coefficients.now _ _ e.before.own-rank.ensures (own_some e) r.rank-of.ensures p.plain.ensures
-    c.if2.false
-
-pub look_at_spec : {M : Type 1} → statement M
-look_at_spec =
-    tie.close
-    (tie.spec own-rank-requires returns rank-of-requires plain-requires returns-2 returns-3)
+pub returns : goal.returns
+returns c =
+    still c.args.scan c.args.g c.args.length _ c.args.coefficients.now _ _ c.own_rank-own.ensures (own_some (goal.at.returns c).Else-own-eq0) c.rank_of-rank.ensures c.plain-sum.ensures
+    c.if-rank-scan.false
