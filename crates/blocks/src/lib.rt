@@ -2,6 +2,8 @@
 // with its place; what is accepted writes back to the same bytes. The bytes themselves are the
 // crates' below: words and checks, the form of a block, a table put and taken, the coefficients'
 // tests.
+#![tactic(auto)]
+
 pub mod answer;
 pub mod judging;
 pub mod reading;
