@@ -20,8 +20,8 @@ use Rattle.ephemeris.specs.Table.{last_place, granule_of, place_in, table_delay}
 use Rattle.ephemeris.specs.Asked.{Placed}
 use Rattle.ephemeris.proofs.Bounds.{length_is, length_cast, last_small}
 use Rattle.ephemeris.proofs.Granules.{at, evaluable}
-use Rattle.ephemeris.proofs.places.delay_at.Statement.{statement}
-use Rattle.ephemeris.proofs.places.delay_at.Tie as tie
+use Rattle.ephemeris.proofs.places.delay_at.Goals as goal
+use Rattle.ephemeris.proofs.places.delay_at.Goals.{After-granule_of-g}
 
 -- the numbers and the part in the words of the code
 abbrev from_of : Table → ℕ → ℕ
@@ -62,76 +62,38 @@ safe T cs i p =
       is = rw (part, length_is T B);
     }
 
-all : (c : tie.After-granule-of)
-    → Safe c.before.args.table c.before.args.coefficients.now c.before.args.place
-    c.granule-of.result
-all c = rw c.granule-of.ensures (safe c.before.args.table c.before.args.coefficients.now c.before.args.place c.before.requires)
+all : (c : After-granule_of-g)
+    → Safe c.args.table c.args.coefficients.now c.args.place
+    c.granule_of-g.result
+all c = rw c.granule_of-g.ensures (safe c.args.table c.args.coefficients.now c.args.place c.requires)
 
-granule-of-requires : tie.Need-granule-of-requires
-granule-of-requires c κs = search rules
+pub overflow_cast-length : goal.overflow_cast-length
+overflow_cast-length c = length_cast c.args.table c.requires.accepted.bounds
 
-cast-length : tie.Need-overflow-cast-length
-cast-length c = let s = c.before.before.before in length_cast s.args.table s.requires.accepted.bounds
+pub overflow_mul-from : goal.overflow_mul-from
+overflow_mul-from c = (all (goal.at.overflow_mul-from c).After-granule_of-g).from
 
-cast-width : tie.Need-overflow-cast-width
-cast-width c = search rules
+pub overflow_add-part : goal.overflow_add-part
+overflow_add-part c = (all (goal.at.overflow_add-part c).After-granule_of-g).to
 
-add-width : tie.Need-overflow-add-width
-add-width c = search rules
+pub offset_bounds-coefficients-from : goal.offset_bounds-coefficients-from
+offset_bounds-coefficients-from c = (all (goal.at.offset_bounds-coefficients-from c).After-granule_of-g).bytes
 
-mul-from : tie.Need-overflow-mul-from
-mul-from c = (all c.before.before.before).from
+pub slice_bounds-part-end : goal.slice_bounds-part-end
+slice_bounds-part-end c = (all (goal.at.slice_bounds-part-end c).After-granule_of-g).end
 
-add-part : tie.Need-overflow-add-part
-add-part c = (all c.before.before.before).to
+pub overflow_mul-g : goal.overflow_mul-g
+overflow_mul-g c = (all (goal.at.overflow_mul-g c).After-granule_of-g).start
 
-mul-part : tie.Need-overflow-mul-part
-mul-part c = (all c.before.before.before).bytes
+pub overflow_sub-place : goal.overflow_sub-place
+overflow_sub-place c = (all (goal.at.overflow_sub-place c).After-granule_of-g).low
 
-sub_part : tie.Need-overflow-sub-part
-sub_part c = search rules
+pub value-v-requires : goal.value-v-requires
+value-v-requires c = (all (goal.at.value-v-requires c).After-granule_of-g).asked
 
-part-part-start : tie.Need-slice-bounds-part-start
-part-part-start c = search rules
-
-part-part-end : tie.Need-slice-bounds-part-end
-part-part-end c = (all c.before.before.before).end
-
-mul-value : tie.Need-overflow-mul-value
-mul-value c = (all c.before.before.before.before).start
-
-sub-value : tie.Need-overflow-sub-value
-sub-value c = (all c.before.before.before.before).low
-
-value-requires : tie.Need-value-requires
-value-requires c κs = (all c.before.before.before.before).asked
-
-delay-requires : tie.Need-delay-requires
-delay-requires c κs = search rules
-
-returns : tie.Need-returns
+pub returns : goal.returns
 returns c =
-    read_is _ (record { sfits = c.delay.type-inv })
+    read_is _ (record { sfits = c.delay.type_inv })
     ∙ c.delay.ensures
-    ∙ ap delay_of c.before.value.ensures
-    ∙ (all c.before.before.before.before.before.before).is
-
-pub delay_at_spec : {M : Type 1} → statement M
-delay_at_spec =
-    tie.close
-    (tie.spec
-    granule-of-requires
-    cast-length
-    cast-width
-    add-width
-    mul-from
-    add-part
-    mul-part
-    sub_part
-    part-part-start
-    part-part-end
-    mul-value
-    sub-value
-    value-requires
-    delay-requires
-    returns)
+    ∙ ap delay_of c.value-v.ensures
+    ∙ (all (goal.at.returns c).After-granule_of-g).is

@@ -17,8 +17,8 @@ use Rattle.ephemeris.specs.Table.{S, place_of}
 use Rattle.ephemeris.specs.Asked.{TickInside}
 use Rattle.ephemeris.proofs.Bounds.{last_small, start_is, not_negative}
 use Rattle.ephemeris.proofs.Ticks.{inside_both, placed}
-use Rattle.ephemeris.proofs.places.place_of.Statement.{statement}
-use Rattle.ephemeris.proofs.places.place_of.Tie as tie
+use Rattle.ephemeris.proofs.places.place_of.Goals as goal
+use Rattle.ephemeris.proofs.places.place_of.Goals.{After-struct_told-2-1}
 
 -- the numbers in the words of the code
 record Safe (T : Table) (t : ℤ) : Type 0 where
@@ -39,20 +39,16 @@ safe T t p f =
       is = rw (read_is t f, start_is T B, read_is _ fits);
     }
 
-all : (c : tie.After-struct-told2)
-    → let s = c.before.before.before.before in Safe s.args.table s.args.tick.0
+all : (c : After-struct_told-2-1)
+    → Safe c.args.table c.args.tick.0
 all c =
-    let s = c.before.before.before.before in
-    safe s.args.table s.args.tick.0 s.requires (record { sfits = c.before.before.struct_told.given.0.1 })
+    safe c.args.table c.args.tick.0 c.requires (record { sfits = c.struct_told-1.given.0.1 })
 
-sub-result : tie.Need-overflow-sub-result
-sub-result c = (all c).sub
+pub overflow_sub-result : goal.overflow_sub-result
+overflow_sub-result c = (all c).sub
 
-cast-result : tie.Need-overflow-cast-result
-cast-result c = (all c).cast
+pub overflow_cast-result : goal.overflow_cast-result
+overflow_cast-result c = (all c).cast
 
-returns : tie.Need-returns
+pub returns : goal.returns
 returns c = (all c).is
-
-pub place_of_spec : {M : Type 1} → statement M
-place_of_spec = tie.close (tie.spec sub-result cast-result returns)

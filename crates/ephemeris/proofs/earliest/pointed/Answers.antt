@@ -17,8 +17,8 @@ use Rattle.ephemeris.specs.Table.{S, last_place, tick_at, is_inside, place_of}
 use Rattle.ephemeris.specs.Asked.{held_inside}
 use Rattle.ephemeris.proofs.Ticks.{inside_both, inside_yes}
 use Rattle.ephemeris.proofs.Closing.{held_inside_lem, held_low, held_high, held_between}
-use Rattle.ephemeris.proofs.earliest.pointed.Statement.{statement}
-use Rattle.ephemeris.proofs.earliest.pointed.Tie as tie
+use Rattle.ephemeris.proofs.earliest.pointed.Goals as goal
+use Rattle.ephemeris.proofs.earliest.pointed.Goals.{After-tt_of-tick}
 
 -- ---- over plain numbers
 not_over : (n : ℕ) (t s : ℤ) → t ≤ℤ (s +ℤ pos n) → (t -ℤ s) ≤ℤ pos n
@@ -52,57 +52,30 @@ module _ (T : Table) (t : ℤ) where
       ))
       (≤-total t (tick_at T (last_place T)))
 
-tick_is : (c : tie.After-tt-of) → c.tt-of.result.0 ≡ c.before.args.asked.0 +ℤ c.before.args.delay
-tick_is c = rw (read_is c.before.args.delay c.before.ranges.delay) at c.tt-of.ensures
+tick_is : (c : After-tt_of-tick) → c.tt_of-tick.result.0 ≡ c.args.asked.0 +ℤ c.args.delay
+tick_is c = rw (read_is c.args.delay c.ranges.delay) at c.tt_of-tick.ensures
 
-tt-of-requires : tie.Need-tt-of-requires
-tt-of-requires c κs = rw (read_is c.args.delay c.ranges.delay) c.requires.movable
+pub tt_of-tick-requires : goal.tt_of-tick-requires
+tt_of-tick-requires c = rw (read_is c.args.delay c.ranges.delay) c.requires.movable
 
-inside-requires : tie.Need-inside-requires
-inside-requires c κs = search rules
+pub place_of-requires : goal.place_of-requires
+place_of-requires c =
+    record {
+      bounds = c.requires.bounds;
+      inside = sym c.inside.ensures ∙ c.if-inside.true;
+    }
 
-place-of-requires : tie.Need-place-of-requires
-place-of-requires c κs = record {
-  bounds = c.before.before.before.requires.bounds;
-  inside = sym c.before.inside.ensures ∙ c.if1.true;
-}
+pub returns-then-inside : goal.returns-then-inside
+returns-then-inside c =
+    rw (← tick_is (goal.at.returns-then-inside c).After-tt_of-tick)
+    (c.place_of.ensures ∙ held_here c.args.table c.tt_of-tick.result.0 (sym c.inside.ensures ∙ c.if-inside.true))
 
-returns : tie.Need-returns
+pub returns-then-tt_before : goal.returns-then-tt_before
+returns-then-tt_before c = rw (← tick_is (goal.at.returns-then-tt_before c).After-tt_of-tick) (held_first c.args.table c.tt_of-tick.result.0 (sym c.tt_before.ensures ∙ c.if-tt_before.true))
+
+pub returns : goal.returns
 returns c =
-    let i = c.before.before in
-    rw (← tick_is i.before)
-    (c.place_of.ensures ∙ held_here i.before.before.args.table i.before.tt-of.result.0 (sym i.inside.ensures ∙ c.before.if1.true))
-
-tt-before-requires : tie.Need-tt-before-requires
-tt-before-requires c κs = search rules
-
-returns-2 : tie.Need-returns-2
-returns-2 c =
-    let a = c.before.before.before.before.before in
-    rw (← tick_is a) (held_first a.before.args.table a.tt-of.result.0 (sym c.before.tt-before.ensures ∙ c.if2.true))
-
-last-place-requires : tie.Need-last-place-requires
-last-place-requires c κs = search rules
-
-returns-3 : tie.Need-returns-3
-returns-3 c =
-    let b = c.before.before in
-    let i = b.before.before.before in
-    let a = i.before in
-    rw (← tick_is a)
-    (c.last_place_lem.ensures
-    ∙ held_last a.before.args.table a.tt-of.result.0 (sym i.inside.ensures ∙ b.before.before.if1.false)
-    (sym b.tt-before.ensures ∙ c.before.if2.false))
-
-pub pointed_spec : {M : Type 1} → statement M
-pointed_spec =
-    tie.close
-    (tie.spec
-    tt-of-requires
-    inside-requires
-    place-of-requires
-    returns
-    tt-before-requires
-    returns-2
-    last-place-requires
-    returns-3)
+    rw (← tick_is (goal.at.returns c).After-tt_of-tick)
+    (c.last_place.ensures
+    ∙ held_last c.args.table c.tt_of-tick.result.0 (sym c.inside.ensures ∙ c.if-inside.false)
+    (sym c.tt_before.ensures ∙ c.if-tt_before.false))

@@ -12,8 +12,7 @@ use Rattle.image.specs.declared.table.Table.{Table}
 use Rattle.ephemeris.specs.Table.{S, tick_at}
 use Rattle.ephemeris.specs.Asked.{Counted}
 use Rattle.ephemeris.proofs.Bounds.{last_small, start_is, tick_fits}
-use Rattle.ephemeris.proofs.places.tick_at.Statement.{statement}
-use Rattle.ephemeris.proofs.places.tick_at.Tie as tie
+use Rattle.ephemeris.proofs.places.tick_at.Goals as goal
 
 -- the numbers in the words of the code
 record Safe (T : Table) (i : ℕ) : Type 0 where
@@ -33,14 +32,11 @@ safe T i p =
       is = rw (start_is T B, to_z_pos w64 i small, read_is _ fits);
     }
 
-cast-t3 : tie.Need-overflow-cast-t3
-cast-t3 c = (safe c.args.table c.args.place c.requires).cast
+pub overflow_cast-result : goal.overflow_cast-result
+overflow_cast-result c = (safe c.args.table c.args.place c.requires).cast
 
-add-t4 : tie.Need-overflow-add-t4
-add-t4 c = let s = c.before.before in (safe s.args.table s.args.place s.requires).tick
+pub overflow_add-result : goal.overflow_add-result
+overflow_add-result c = (safe c.args.table c.args.place c.requires).tick
 
-returns : tie.Need-returns
-returns c = let s = c.before.before in (safe s.args.table s.args.place s.requires).is
-
-pub tick_at_spec : {M : Type 1} → statement M
-tick_at_spec = tie.close (tie.spec cast-t3 add-t4 returns)
+pub returns : goal.returns
+returns c = (safe c.args.table c.args.place c.requires).is
