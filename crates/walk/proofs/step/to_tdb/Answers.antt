@@ -1,0 +1,11 @@
+-- `walk::step::to_tdb` meets its contract: a table that is kept was accepted, and the step over it
+-- is the ephemeris'. Assumes nothing.
+use borrow.Author.Rules.{rules}
+use Rattle.numbers.proofs.Machine.{read_is}
+use Rattle.walk.proofs.step.to_tdb.Goals as goal
+
+pub to_tdb-requires : goal.to_tdb-requires
+to_tdb-requires c = c.requires.accepted _ c.in-Table.is
+
+pub returns-in-Table : goal.returns-in-Table
+returns-in-Table c = rw c.in-Table.is (rw (read_is _ (record { sfits = c.struct_told-1.given.1.0.1 })) at c.to_tdb.ensures)
