@@ -11,8 +11,8 @@ use Rattle.numbers.proofs.Machine.{fits_small, read, read_is}
 use Rattle.numbers.proofs.Order.{abs_minus, size-*, size-+}
 use Rattle.utc.specs.Days.{day_ticks, second_ticks, tai_by}
 use Rattle.utc.specs.Asked.{NearReading}
-use Rattle.utc.proofs.tai.tai_by.Statement.{statement}
-use Rattle.utc.proofs.tai.tai_by.Tie as tie
+use Rattle.utc.proofs.tai.tai_by.Goals as goal
+use Rattle.utc.proofs.tai.tai_by.Goals.{Start}
 
 -- sizes, and that they fit
 module _ (seconds day ticks : ℤ) (n : NearReading seconds day ticks) where
@@ -51,7 +51,7 @@ module _ (seconds day ticks : ℤ) (n : NearReading seconds day ticks) where
       (omega (arith, abs_minus ((day -ℤ pos 43144) *ℤ pos day_ticks +ℤ ticks +ℤ seconds *ℤ pos second_ticks) (pos 32184000000), with_leap_size)) (lit< tt)
 
 -- what the code holds after each operation is the number itself
-module _ (c : tie.Start) where
+module _ (c : Start) where
   near : NearReading c.args.seconds c.args.day c.args.ticks
   near = c.requires
 
@@ -78,30 +78,25 @@ module _ (c : tie.Start) where
   leap_is : read (read c.args.seconds *ℤ pos second_ticks) ≡ c.args.seconds *ℤ pos second_ticks
   leap_is = rw seconds_are (read_is _ (leap _ _ _ near))
 
-sub-result : tie.Need-overflow-sub-result
-sub-result c = rw (day_is c) (days _ _ _ (near c))
+pub overflow_sub-result : goal.overflow_sub-result
+overflow_sub-result c = rw (day_is c) (days _ _ _ (near c))
 
-mul-result : tie.Need-overflow-mul-result
-mul-result c = rw (days_are c) (product _ _ _ (near c))
+pub overflow_mul-result : goal.overflow_mul-result
+overflow_mul-result c = rw (days_are c) (product _ _ _ (near c))
 
-add-result : tie.Need-overflow-add-result
-add-result c = rw (product_is c, ticks_are c) (sum _ _ _ (near c))
+pub overflow_add-result : goal.overflow_add-result
+overflow_add-result c = rw (product_is c, ticks_are c) (sum _ _ _ (near c))
 
-mul-result-2 : tie.Need-overflow-mul-result-2
-mul-result-2 c = rw (seconds_are c) (leap _ _ _ (near c))
+pub overflow_mul-result-2 : goal.overflow_mul-result-2
+overflow_mul-result-2 c = rw (seconds_are c) (leap _ _ _ (near c))
 
-add-result-2 : tie.Need-overflow-add-result-2
-add-result-2 c = rw (sum_is c, leap_is c) (with_leap _ _ _ (near c))
+pub overflow_add-result-2 : goal.overflow_add-result-2
+overflow_add-result-2 c = rw (sum_is c, leap_is c) (with_leap _ _ _ (near c))
 
-sub-result-2 : tie.Need-overflow-sub-result-2
+pub overflow_sub-result-2 : goal.overflow_sub-result-2
 unfolding tai_by
-sub-result-2 c = rw (sum_is c, leap_is c, read_is _ (with_leap _ _ _ (near c))) (tick _ _ _ (near c))
+overflow_sub-result-2 c = rw (sum_is c, leap_is c, read_is _ (with_leap _ _ _ (near c))) (tick _ _ _ (near c))
 
-returns : tie.Need-returns
+pub returns : goal.returns
 unfolding tai_by
 returns c = rw (sum_is c, leap_is c, read_is _ (with_leap _ _ _ (near c)), read_is _ (tick _ _ _ (near c)))
-
-pub tai_by_spec : {M : Type 1} → statement M
-tai_by_spec =
-    tie.close
-    (tie.spec sub-result mul-result add-result mul-result-2 add-result-2 sub-result-2 returns)

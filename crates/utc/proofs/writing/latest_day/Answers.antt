@@ -16,8 +16,8 @@ use Rattle.numbers.proofs.Rounding.{floor_plus}
 use Rattle.scales.specs.Tick.{furthest}
 use Rattle.utc.specs.Days.{day_ticks, second_ticks}
 use Rattle.utc.specs.Asked.{Writable, first_tick, latest_day}
-use Rattle.utc.proofs.writing.latest_day.Statement.{statement}
-use Rattle.utc.proofs.writing.latest_day.Tie as tie
+use Rattle.utc.proofs.writing.latest_day.Goals as goal
+use Rattle.utc.proofs.writing.latest_day.Goals.{Start}
 
 abbrev since : ℤ → ℤ
 since tick = tick +ℤ pos 157852885184000000
@@ -69,27 +69,23 @@ module _ (t : ℤ) (w : Writable t) where
       back (floor_div x day_ticks) (pos (nat_abs (since t) / day_ticks))
       (sym (floor_pos (nat_abs (since t))) ∙ ap (λ (z : ℤ). floor_div z day_ticks) (whole ∙ moved t) ∙ floor_plus x (pos 1827) day_ticks (lit< tt))
 
-tick_is : (c : tie.Start) → read c.args.tick ≡ c.args.tick
+tick_is : (c : Start) → read c.args.tick ≡ c.args.tick
 tick_is c = read_is c.args.tick c.ranges.tick
 
-since_is : (c : tie.Start) → read (since c.args.tick) ≡ since c.args.tick
+since_is : (c : Start) → read (since c.args.tick) ≡ since c.args.tick
 since_is c = read_is _ (fits c.args.tick c.requires)
 
-add-since : tie.Need-overflow-add-since
-add-since c = rw (tick_is c) (fits c.args.tick c.requires)
+pub overflow_add-since : goal.overflow_add-since
+overflow_add-since c = rw (tick_is c) (fits c.args.tick c.requires)
 
-cast-since : tie.Need-overflow-cast-since
-cast-since c = rw (tick_is c, since_is c) (cast c.args.tick c.requires)
+pub overflow_cast-since : goal.overflow_cast-since
+overflow_cast-since c = rw (tick_is c, since_is c) (cast c.args.tick c.requires)
 
-cast-result : tie.Need-overflow-cast-result
-cast-result c = rw (tick_is c, since_is c) (days_fit c.args.tick c.requires)
+pub overflow_cast-result : goal.overflow_cast-result
+overflow_cast-result c = rw (tick_is c, since_is c) (days_fit c.args.tick c.requires)
 
-add-result : tie.Need-overflow-add-result
-add-result c = rw (tick_is c, since_is c, days c.args.tick c.requires) (day_fits c.args.tick c.requires)
+pub overflow_add-result : goal.overflow_add-result
+overflow_add-result c = rw (tick_is c, since_is c, days c.args.tick c.requires) (day_fits c.args.tick c.requires)
 
-returns : tie.Need-returns
-returns c =
-    rw (tick_is c, since_is c, days c.args.tick c.requires, read_is _ (day_fits c.args.tick c.requires)) (is c.args.tick c.requires)
-
-pub latest_day_spec : {M : Type 1} → statement M
-latest_day_spec = tie.close (tie.spec add-since cast-since cast-result add-result returns)
+pub returns : goal.returns
+returns c = rw (tick_is c, since_is c, days c.args.tick c.requires, read_is _ (day_fits c.args.tick c.requires)) (is c.args.tick c.requires)
