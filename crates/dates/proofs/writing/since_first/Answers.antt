@@ -14,8 +14,8 @@ use Rattle.numbers.proofs.Machine.{fits, lt_yes, lt_no}
 use Rattle.scales.specs.Tick.{furthest}
 use Rattle.dates.specs.Inner.{Since}
 use Rattle.dates.proofs.Days.{ahead, days_counted}
-use Rattle.dates.proofs.writing.since_first.Statement.{statement}
-use Rattle.dates.proofs.writing.since_first.Tie as tie
+use Rattle.dates.proofs.writing.since_first.Goals as goal
+use Rattle.dates.proofs.writing.since_first.Goals.{Else-tick-lt0, Start, Then-tick-lt0}
 
 -- a negative tick, counted from the tick −k
 module _ (k : ℕ) (enough : furthest ≤ k) (small : k < 2 ^ 63) where
@@ -38,32 +38,29 @@ above : (t : ℤ) → nat_abs t ≤ furthest → pos 0 ≤ℤ t → Above t
 above (negsuc n) b h = absurd h.le
 above (pos n) b h = record { cast = (tt, record { fits = omega arith }); sum = record { fits = omega arith }; is = record { is = refl; few = omega arith } }
 
-back : (c : tie.Start) → to_z w64 (of_z w64 c.args.tick) ≡ c.args.tick
+back : (c : Start) → to_z w64 (of_z w64 c.args.tick) ≡ c.args.tick
 back c = to_z-of_z w64 c.args.tick c.ranges.tick
 
-before_it : (c : tie.Then1) → c.before.args.tick <ℤ pos 0
-before_it c = lt_yes _ _ (rw (back c.before) at c.if1.true)
+before_it : (c : Then-tick-lt0) → c.args.tick <ℤ pos 0
+before_it c = lt_yes _ _ (rw (back (goal.at.Then-tick-lt0 c).Start) at c.if-tick-lt0.true)
 
-other : (c : tie.Else1) → Above c.before.args.tick
-other c = above _ c.before.requires (lt_no _ _ (rw (back c.before) at c.if1.false))
+other : (c : Else-tick-lt0) → Above c.args.tick
+other c = above _ c.requires (lt_no _ _ (rw (back (goal.at.Else-tick-lt0 c).Start) at c.if-tick-lt0.false))
 
-add-result : tie.Need-overflow-add-result
-add-result c = rw (back c.before) (sum _ (lit≤ tt) (lit< tt) _ c.before.requires (before_it c))
+pub overflow_add-result : goal.overflow_add-result
+overflow_add-result c = rw (back (goal.at.overflow_add-result c).Start) (sum _ (lit≤ tt) (lit< tt) _ c.requires (before_it c))
 
-cast-result : tie.Need-overflow-cast-result
-cast-result c = rw (to_z-of_z w64 _ (add-result c), back c.before) (cast _ (lit≤ tt) (lit< tt) _ c.before.requires (before_it c))
+pub overflow_cast-result : goal.overflow_cast-result
+overflow_cast-result c = rw (to_z-of_z w64 _ (overflow_add-result c), back (goal.at.overflow_cast-result c).Start) (cast _ (lit≤ tt) (lit< tt) _ c.requires (before_it c))
 
-returns : tie.Need-returns
-returns c = rw (to_z-of_z w64 _ (add-result c), back c.before) (days_counted c.before.args.tick c.before.requires)
+pub returns-then-tick-lt0 : goal.returns-then-tick-lt0
+returns-then-tick-lt0 c = rw (to_z-of_z w64 _ (overflow_add-result c), back (goal.at.returns-then-tick-lt0 c).Start) (days_counted c.args.tick c.requires)
 
-cast-result-2 : tie.Need-overflow-cast-result-2
-cast-result-2 c = rw (back c.before) (other c).cast
+pub overflow_cast-result-2 : goal.overflow_cast-result-2
+overflow_cast-result-2 c = rw (back (goal.at.overflow_cast-result-2 c).Start) (other c).cast
 
-add-result-2 : tie.Need-overflow-add-result-2
-add-result-2 c = rw (back c.before) (other c).sum
+pub overflow_add-result-2 : goal.overflow_add-result-2
+overflow_add-result-2 c = rw (back (goal.at.overflow_add-result-2 c).Start) (other c).sum
 
-returns-2 : tie.Need-returns-2
-returns-2 c = rw (back c.before) (other c).is
-
-pub since_first_spec : {M : Type 1} → statement M
-since_first_spec = tie.close (tie.spec add-result cast-result returns cast-result-2 add-result-2 returns-2)
+pub returns : goal.returns
+returns c = rw (back (goal.at.returns c).Start) (other c).is

@@ -18,16 +18,16 @@ use Rattle.dates.specs.Doubles.{denominator}
 use Rattle.dates.specs.Inner.{Apart}
 use Rattle.dates.proofs.Fields.{no_nan, low_lt, plain_field, taken_apart}
 use Rattle.dates.proofs.Values.{exponent_reach, far_exact, far_exponent, far_positive, readable_wider}
-use Rattle.dates.proofs.ticks.far_pieces.Statement.{statement}
-use Rattle.dates.proofs.ticks.far_pieces.Tie as tie
+use Rattle.dates.proofs.ticks.far_pieces.Goals as goal
+use Rattle.dates.proofs.ticks.far_pieces.Goals.{Start}
 
-module _ (c : tie.Start) where
+module _ (c : Start) where
   abbrev x : Float
   x = c.args.x
 
   -- what owning an `f64` tells: the format holds it
   held : T (fits binary64 x)
-  held = subst T (sym c.well-formed.0.1) tt
+  held = subst T (sym c.well_formed.0.1) tt
 
   abbrev bits : ℕ
   bits = to_bits binary64 x
@@ -78,25 +78,25 @@ module _ (c : tie.Start) where
       let l : pieces < 18446744073709551616 = omega arith in
       ap (to_z w64) (mod-eq_of_lt l) ∙ to_z_pos w64 pieces (omega arith)
 
-float-to-bits-bits : tie.Need-float-to-bits-bits
-float-to-bits-bits c = no_nan (x c) c.requires.readable.finitely
+pub float_to_bits-bits : goal.float_to_bits-bits
+float_to_bits-bits c = no_nan (x c) c.requires.readable.finitely
 
-add-digits : tie.Need-overflow-add-digits
-add-digits c = record { fits = omega (arith, digits_few c) }
+pub overflow_add-digits : goal.overflow_add-digits
+overflow_add-digits c = record { fits = omega (arith, digits_few c) }
 
-cast-result : tie.Need-overflow-cast-result
-cast-result c = record { sfits = omega (arith, digits_few c) }
+pub overflow_cast-result : goal.overflow_cast-result
+overflow_cast-result c = record { sfits = omega (arith, digits_few c) }
 
-sub-result : tie.Need-overflow-sub-result
-sub-result c = least c
+pub overflow_sub-result : goal.overflow_sub-result
+overflow_sub-result c = least c
 
-cast-result-2 : tie.Need-overflow-cast-result-2
-cast-result-2 c = record { sfits = omega (arith, shift_few c) }
+pub overflow_cast-result-2 : goal.overflow_cast-result-2
+overflow_cast-result-2 c = record { sfits = omega (arith, shift_few c) }
 
-shl-result : tie.Need-overflow-shl-result
-shl-result c = omega (arith, shift_few c)
+pub overflow_shl-result : goal.overflow_shl-result
+overflow_shl-result c = omega (arith, shift_few c)
 
-returns : tie.Need-returns
+pub returns : goal.returns
 returns c =
     rw (result c)
     (record {
@@ -105,6 +105,3 @@ returns c =
           ∙ far_exact (x c) (pos (digits c)) (exponent c) (apart c) c.requires;
       small = pieces_few c;
     })
-
-pub far_pieces_spec : {M : Type 1} → statement M
-far_pieces_spec = tie.close (tie.spec float-to-bits-bits add-digits cast-result sub-result cast-result-2 shl-result returns)

@@ -8,8 +8,7 @@ use mir.Val.{SFits, to_z, of_z}
 use mir.ValLaws.{to_z-of_z}
 use Rattle.numbers.proofs.Order.{size-+}
 use Rattle.numbers.proofs.Machine.{fits}
-use Rattle.dates.proofs.span.plus.Statement.{statement}
-use Rattle.dates.proofs.span.plus.Tie as tie
+use Rattle.dates.proofs.span.plus.Goals as goal
 
 module _ (x y : ℤ) (h : nat_abs x ≤ 2305843009213693952) (k : nat_abs y ≤ 2305843009213693952) where
   back : (z : ℤ) → nat_abs z ≤ 2305843009213693952 → to_z w64 (of_z w64 z) ≡ z
@@ -21,21 +20,15 @@ module _ (x y : ℤ) (h : nat_abs x ≤ 2305843009213693952) (k : nat_abs y ≤ 
   sum_is : to_z w64 (of_z w64 (to_z w64 (of_z w64 x) +ℤ to_z w64 (of_z w64 y))) ≡ x +ℤ y
   sum_is = to_z-of_z w64 _ added ∙ rw (back x h, back y k)
 
-add-t3 : tie.Need-overflow-add-t3
-add-t3 c = let s = c.before.before.before.before in added s.args.a.units s.args.b.units s.requires.0.units s.requires.1.units
+pub overflow_add-result : goal.overflow_add-result
+overflow_add-result c = added c.args.a.units c.args.b.units c.requires.span_within.units c.requires.span_within_2.units
 
-add-t4 : tie.Need-overflow-add-t4
-add-t4 c =
-    let s = c.before.before.before.before.before.before.before.before in
-    added s.args.a.rest s.args.b.rest s.requires.0.rest s.requires.1.rest
+pub overflow_add-result-2 : goal.overflow_add-result-2
+overflow_add-result-2 c = added c.args.a.rest c.args.b.rest c.requires.span_within.rest c.requires.span_within_2.rest
 
-returns : tie.Need-returns
+pub returns : goal.returns
 returns c =
-    let s = c.before.before.before.before.before.before.before.before in
     record {
-      units_are = sum_is s.args.a.units s.args.b.units s.requires.0.units s.requires.1.units;
-      rest_is = sum_is s.args.a.rest s.args.b.rest s.requires.0.rest s.requires.1.rest;
+      units_are = sum_is c.args.a.units c.args.b.units c.requires.span_within.units c.requires.span_within_2.units;
+      rest_is = sum_is c.args.a.rest c.args.b.rest c.requires.span_within.rest c.requires.span_within_2.rest;
     }
-
-pub plus_spec : {M : Type 1} → statement M
-plus_spec = tie.close (tie.spec add-t3 add-t4 returns)

@@ -5,19 +5,15 @@ use native.Mathlib.Omega.{arith}
 use lib.IntN.{pos}
 use lib.Ieee.{binary64, of_bits, of_int}
 use Rattle.dates.proofs.Days.{castable}
-use Rattle.dates.proofs.writing.part_of_day.Statement.{statement}
-use Rattle.dates.proofs.writing.part_of_day.Tie as tie
+use Rattle.dates.proofs.writing.part_of_day.Goals as goal
 
-int-to-float-result : tie.Need-int-to-float-result
-int-to-float-result c = castable c.before.args.ticks (omega (arith, c.before.requires))
+pub int_to_float-result : goal.int_to_float-result
+int_to_float-result c = castable c.args.ticks (omega (arith, c.requires))
 
 -- the source's 86,400,000,000,000.0
 day : of_bits binary64 4815374002031689728 ≡ of_int binary64 (pos 86400000000000)
 unfolding of_bits of_int
 day = refl
 
-returns : tie.Need-returns
+pub returns : goal.returns
 returns c = rw day
-
-pub part_of_day_spec : {M : Type 1} → statement M
-part_of_day_spec = tie.close (tie.spec int-to-float-result returns)

@@ -1,6 +1,5 @@
 -- `dates::writing::julian_date` meets its contract: 86,400ths and halves are cast exactly, and
 -- equal quotients are rounded alike. Assumes nothing.
-use borrow.Author.Rules.{rules}
 use mathlib.Core.Path.{◌≡◌, refl}
 use Prim.Native.Nat.{◌+◌, ◌*◌, ◌≤◌}
 use native.Mathlib.Omega.{arith}
@@ -9,30 +8,20 @@ use lib.IntN.{pos}
 use lib.Ieee.{binary64, of_bits, of_int}
 use Rattle.dates.proofs.Days.{castable}
 use Rattle.dates.proofs.Division.{same_quotient}
-use Rattle.dates.proofs.writing.julian_date.Statement.{statement}
-use Rattle.dates.proofs.writing.julian_date.Tie as tie
+use Rattle.dates.proofs.writing.julian_date.Goals as goal
 
-mul-result : tie.Need-overflow-mul-result
-mul-result c = search rules
-
-add-result : tie.Need-overflow-add-result
-add-result c = search rules
-
-int-to-float-result : tie.Need-int-to-float-result
-int-to-float-result c = castable _ (omega (arith, c.before.requires))
+pub int_to_float-result : goal.int_to_float-result
+int_to_float-result c = castable _ (omega (arith, c.requires))
 
 -- the source's 86,400.0
 day : of_bits binary64 4680673776000565248 ≡ of_int binary64 (pos 86400)
 unfolding of_bits of_int
 day = refl
 
-returns : tie.Need-returns
+pub returns : goal.returns
 returns c =
-    let days = c.before.args.days in
-    let few : days ≤ 140000 = c.before.requires in
+    let days = c.args.days in
+    let few : days ≤ 140000 = c.requires in
     rw day
     (same_quotient (86400 * days + 205039684800) 86400 (2 * days + 4746289) 2
     (omega arith) (lit≤ tt) (omega arith) (lit≤ tt) (lit< tt) (lit< tt) (omega arith))
-
-pub julian_date_spec : {M : Type 1} → statement M
-julian_date_spec = tie.close (tie.spec mul-result add-result int-to-float-result returns)
