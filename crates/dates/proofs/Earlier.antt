@@ -2,7 +2,7 @@
 use mathlib.Core.Path.{◌≡◌}
 use mathlib.Core.Logic.{◌⊎◌, inl, inr}
 use mathlib.Core.Bool.{Bool, true, false, ◌||◌, not, false≢true}
-use Prim.Native.Nat.{ℕ, ◌*◌, ◌^◌, ◌≤◌}
+use Prim.Native.Nat.{ℕ, ◌*◌, ◌^◌}
 use native.Mathlib.Nat.{le_of_lt, le_of_eq, mul_comm}
 use native.Mathlib.Omega.{arith}
 use lib.Dec.{T, eqb, ltb→lt, eqb→eq}
@@ -11,7 +11,6 @@ use lib.Signed.{◌≤ℤ◌}
 use lib.Ieee.{Float, nan, inf, fin, up, down, le, lt, eq, below, level}
 use lib.Ieee.Fits.{and_l, and_r}
 use lib.Ieee.Scale.{finite}
-use Rattle.numbers.specs.Rounding.{nearest}
 use Rattle.numbers.proofs.Differences.{rep₃, lin}
 use Rattle.numbers.proofs.Ring.{*-left-comm, one-*}
 use Rattle.numbers.proofs.Order.{*-mono, le_pos}

@@ -9,7 +9,7 @@ use native.Mathlib.Omega.{arith}
 use lib.Dec.{T, eqb, leb, ltb, lit≤, lit<, ltb→lt}
 use lib.IntN.{ℤ, pos, negsuc, nat_abs, ◌+ℤ◌, ◌-ℤ◌, ◌*ℤ◌, +ℤ_comm}
 use lib.Pow.{pow-add, pow_pos, pow_mono}
-use lib.Ieee.{Float, nan, inf, fin, down, binary64, fits}
+use lib.Ieee.{Float, nan, inf, fin, binary64, fits}
 use lib.Ieee.Fits.{and_l, and_r}
 use Rattle.numbers.specs.Rounding.{floor_div, nearest}
 use Rattle.numbers.proofs.Differences.{rep, rep₂, rep₃, lin, sizes}

@@ -1,0 +1,21 @@
+-- `utc::entries::first_day` meets its contract. Assumes nothing.
+use native.Mathlib.Omega.{arith}
+use Rattle.numbers.proofs.Machine.{read_is}
+use Rattle.utc.specs.Leaps.{entries, first_day}
+use Rattle.utc.proofs.entries.first_day.Goals as goal
+
+pub overflow_mul-result : goal.overflow_mul-result
+unfolding entries
+overflow_mul-result c = omega arith
+
+pub offset_bounds-leaps-entry : goal.offset_bounds-leaps-entry
+unfolding entries
+offset_bounds-leaps-entry c = omega arith
+
+pub bounds-leaps-entry : goal.bounds-leaps-entry
+unfolding entries
+bounds-leaps-entry c = omega arith
+
+pub returns : goal.returns
+unfolding first_day
+returns c = read_is _ (record { sfits = c.result-1.given })

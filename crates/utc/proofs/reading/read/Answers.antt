@@ -1,0 +1,174 @@
+-- `utc::reading::read` meets its contract: each test is one of the definition's, and a day more
+-- than 100,000 after 43144 is out of the range. Assumes nothing.
+use mathlib.Core.Path.{◌≡◌, sym, ◌∙◌, ap}
+use mathlib.Core.Bool.{true, false, ◌&&◌}
+use mathlib.Core.List.{List}
+use Prim.Native.Nat.{◌≤◌}
+use native.Mathlib.Omega.{arith}
+use lib.IntN.{ℤ, pos, neg_ℤ, nat_abs, ◌-ℤ◌}
+use lib.Signed.{◌≤ℤ◌, ◌<ℤ◌, le_z}
+use Rattle.numbers.proofs.Differences.{rep, rep₃, lin}
+use Rattle.numbers.proofs.Flags.{and_right}
+use Rattle.numbers.proofs.Machine.{le_yes, lt_no, lt_yes, no_le, no_lt, read, read_is}
+use Rattle.scales.specs.Tick.{furthest, is_valid}
+use Rattle.scales.specs.declared.answer.Read.TheVariants as R
+use Rattle.utc.specs.Leaps.{list_day, seconds}
+use Rattle.utc.specs.Days.{entry_on, is_reading, length_of, seconds_on, tai_by, tai_of}
+use Rattle.utc.specs.Readings.{utc_refused, utc_read}
+use Rattle.utc.specs.Asked.{Listed}
+use Rattle.utc.proofs.Fitting.{le_no}
+use Rattle.utc.proofs.Rules.{Moderate, moderate_size, right}
+use Rattle.utc.proofs.Standing.{entry_at, seconds_moderate}
+use Rattle.utc.proofs.Within.{Reading, is_reading_lem, reading_size}
+use Rattle.utc.proofs.reading.read.Goals as goal
+use Rattle.utc.proofs.reading.read.Goals.{After-entry_on-entry, After-length_by, After-seconds_of-seconds, After-tai_by-tick, Else-day-lt41317, Else-ticks-length_by, Else-ticks-lt0, Start}
+
+-- a day beyond which every tick is out of the range, and up to which the formula is safe
+beyond : (seconds day ticks : ℤ) → neg_ℤ (pos 53) ≤ℤ seconds → pos 0 ≤ℤ ticks → pos 143144 <ℤ day
+    → pos furthest <ℤ tai_by seconds day ticks
+unfolding tai_by
+beyond = rep₃ _ (λ a b c d e f. simp lin (omega arith))
+
+near : (day : ℤ) → pos list_day ≤ℤ day → day ≤ℤ pos 143144 → nat_abs (day -ℤ pos 43144) ≤ 100000
+near = rep _ (λ a b. simp lin (omega arith))
+
+-- the tests
+module _ (leaps : List ℤ) (day ticks : ℤ) where
+  no_reading : is_reading leaps day ticks ≡ false → utc_refused 5 ≡ utc_read leaps day ticks
+  unfolding utc_read
+  no_reading e = rw e
+
+  early : day <ℤ pos list_day → is_reading leaps day ticks ≡ false
+  unfolding is_reading
+  early h = let no = no_le (pos list_day) day h in rw no
+
+  negative : ticks <ℤ pos 0 → is_reading leaps day ticks ≡ false
+  unfolding is_reading
+  negative h =
+      let no : le_z (pos list_day) day && le_z (pos 0) ticks ≡ false = and_right (le_z (pos list_day) day) (no_le (pos 0) ticks h) in rw no
+
+  over : length_of leaps day ≤ℤ ticks → is_reading leaps day ticks ≡ false
+  unfolding is_reading
+  over h = and_right (le_z (pos list_day) day && le_z (pos 0) ticks) (no_lt ticks (length_of leaps day) h)
+
+  module _ (h : Reading leaps day ticks) where
+    far : Moderate (seconds_on leaps day) → pos 143144 <ℤ day → utc_refused 4 ≡ utc_read leaps day ticks
+    unfolding utc_read is_valid tai_of
+    far m l =
+        let yes = is_reading_lem h in
+        let t = tai_by (seconds_on leaps day) day ticks in
+        let past = beyond (seconds_on leaps day) day ticks m.low h.low l in
+        let no : is_valid t ≡ false = and_right (le_z (neg_ℤ (pos furthest)) t) (no_le t (pos furthest) past) in
+        rw (yes, no)
+
+    ranged : is_valid (tai_of leaps day ticks) ≡ true → R.Tick (tai_of leaps day ticks) ≡ utc_read leaps day ticks
+    unfolding utc_read
+    ranged v = let yes = is_reading_lem h in rw (yes, v)
+
+    unranged : is_valid (tai_of leaps day ticks) ≡ false → utc_refused 4 ≡ utc_read leaps day ticks
+    unfolding utc_read
+    unranged v = let yes = is_reading_lem h in rw (yes, v)
+
+-- what the code has at hand
+day_is : (c : Start) → read c.args.day ≡ c.args.day
+day_is c = read_is c.args.day c.ranges.day
+
+ticks_is : (c : Start) → read c.args.ticks ≡ c.args.ticks
+ticks_is c = read_is c.args.ticks c.ranges.ticks
+
+listed : (c : Else-day-lt41317) → Listed c.args.leaps.now c.args.day
+listed c = record { right = c.requires; begun = lt_no _ _ (rw (day_is (goal.at.Else-day-lt41317 c).Start) at c.if-day-lt41317.false) }
+
+not_negative : (c : Else-ticks-lt0) → pos 0 ≤ℤ c.args.ticks
+not_negative c = lt_no _ _ (rw (ticks_is (goal.at.Else-ticks-lt0 c).Start) at c.if-ticks-lt0.false)
+
+entry_is : (c : After-entry_on-entry) → c.entry_on-entry.result ≡ entry_on c.args.leaps.now c.args.day
+entry_is c = rw (day_is (goal.at.After-entry_on-entry c).Start) at c.entry_on-entry.ensures
+
+seconds_is : (c : After-seconds_of-seconds) → read c.seconds_of-seconds.result ≡ seconds_on c.args.leaps.now c.args.day
+unfolding seconds_on
+seconds_is c =
+    read_is _ (record { sfits = c.seconds_of-seconds.type_inv }) ∙ c.seconds_of-seconds.ensures
+    ∙ ap (seconds c.args.leaps.now) (entry_is c.before)
+
+length_is : (c : After-length_by) → read c.length_by.result ≡ length_of c.args.leaps.now c.args.day
+unfolding length_of
+length_is c =
+    let after = read_is _ (record { sfits = c.seconds_after.type_inv }) ∙ c.seconds_after.ensures in
+    read_is _ (record { sfits = c.length_by.type_inv })
+    ∙ (rw (seconds_is (goal.at.After-length_by c).After-seconds_of-seconds, after, day_is (goal.at.After-length_by c).Start) at c.length_by.ensures)
+
+pub returns-then-day-lt41317 : goal.returns-then-day-lt41317
+returns-then-day-lt41317 c =
+    c.no_tick.ensures
+    ∙ no_reading c.args.leaps.now c.args.day c.args.ticks
+    (early c.args.leaps.now c.args.day c.args.ticks (lt_yes _ _ (rw (day_is (goal.at.returns-then-day-lt41317 c).Start) at c.if-day-lt41317.true)))
+
+pub returns-then-ticks-lt0 : goal.returns-then-ticks-lt0
+returns-then-ticks-lt0 c =
+    c.no_tick-then-ticks-lt0.ensures
+    ∙ no_reading c.args.leaps.now c.args.day c.args.ticks
+    (negative c.args.leaps.now c.args.day c.args.ticks (lt_yes _ _ (rw (ticks_is (goal.at.returns-then-ticks-lt0 c).Start) at c.if-ticks-lt0.true)))
+
+pub entry_on-entry-requires : goal.entry_on-entry-requires
+entry_on-entry-requires c = rw (day_is (goal.at.entry_on-entry-requires c).Start) (listed (goal.at.entry_on-entry-requires c).Else-day-lt41317)
+
+pub seconds_of-seconds-requires : goal.seconds_of-seconds-requires
+seconds_of-seconds-requires c =
+    let l = listed (goal.at.seconds_of-seconds-requires c).Else-day-lt41317 in
+    rw (entry_is c) (entry_at (right _ l.right) _ l.begun).within
+
+pub seconds_after-requires : goal.seconds_after-requires
+seconds_after-requires c = rw (day_is (goal.at.seconds_after-requires c).Start) (record { listed = listed (goal.at.seconds_after-requires c).Else-day-lt41317; is = entry_is c.before })
+
+pub returns-then-ticks-length_by : goal.returns-then-ticks-length_by
+returns-then-ticks-length_by c =
+    c.no_tick-then-ticks-length_by.ensures
+    ∙ no_reading c.args.leaps.now c.args.day c.args.ticks
+    (over c.args.leaps.now c.args.day c.args.ticks (le_yes _ _ (rw (length_is (goal.at.returns-then-ticks-length_by c).After-length_by, ticks_is (goal.at.returns-then-ticks-length_by c).Start) at c.if-ticks-length_by.true)))
+
+-- a right reading
+right_one : (c : Else-ticks-length_by) → Reading c.args.leaps.now c.args.day c.args.ticks
+right_one c =
+    record {
+      begun = (listed (goal.at.Else-ticks-length_by c).Else-day-lt41317).begun;
+      low = not_negative (goal.at.Else-ticks-length_by c).Else-ticks-lt0;
+      high = le_no _ _ (rw (length_is (goal.at.Else-ticks-length_by c).After-length_by, ticks_is (goal.at.Else-ticks-length_by c).Start) at c.if-ticks-length_by.false);
+    }
+
+on_day : (c : Else-ticks-length_by) → Moderate (seconds_on c.args.leaps.now c.args.day)
+on_day c =
+    let l = listed (goal.at.Else-ticks-length_by c).Else-day-lt41317 in
+    seconds_moderate (right _ l.right) _ l.begun
+
+pub returns-then-day-gt143144 : goal.returns-then-day-gt143144
+returns-then-day-gt143144 c =
+    c.no_tick-then-day-gt143144.ensures
+    ∙ far c.args.leaps.now c.args.day c.args.ticks (right_one (goal.at.returns-then-day-gt143144 c).Else-ticks-length_by) (on_day (goal.at.returns-then-day-gt143144 c).Else-ticks-length_by) (lt_yes _ _ (rw (day_is (goal.at.returns-then-day-gt143144 c).Start) at c.if-day-gt143144.true))
+
+pub tai_by-tick-requires : goal.tai_by-tick-requires
+tai_by-tick-requires c =
+    let h = right_one (goal.at.tai_by-tick-requires c).Else-ticks-length_by in
+    rw (seconds_is c.before.before.before.before, day_is (goal.at.tai_by-tick-requires c).Start, ticks_is (goal.at.tai_by-tick-requires c).Start)
+    (record {
+      few = moderate_size (on_day (goal.at.tai_by-tick-requires c).Else-ticks-length_by);
+      near = near c.args.day h.begun (lt_no _ _ (rw (day_is (goal.at.tai_by-tick-requires c).Start) at c.if-day-gt143144.false));
+      short = reading_size h;
+    })
+
+tick_is : (c : After-tai_by-tick)
+    → read c.tai_by-tick.result ≡ tai_of c.args.leaps.now c.args.day c.args.ticks
+unfolding tai_of
+tick_is c =
+    read_is _ (record { sfits = c.tai_by-tick.type_inv })
+    ∙ (rw (seconds_is c.before.before.before.before.before, day_is (goal.at.After-tai_by-tick c).Start, ticks_is (goal.at.After-tai_by-tick c).Start) at c.tai_by-tick.ensures)
+
+pub returns-then-valid : goal.returns-then-valid
+returns-then-valid c =
+    rw (tick_is c.before.before)
+    (ranged c.args.leaps.now c.args.day c.args.ticks (right_one (goal.at.returns-then-valid c).Else-ticks-length_by) ((rw (tick_is c.before.before) at (sym c.valid.ensures)) ∙ c.if-valid.true))
+
+pub returns : goal.returns
+returns c =
+    c.no_tick-2.ensures
+    ∙ unranged c.args.leaps.now c.args.day c.args.ticks (right_one (goal.at.returns c).Else-ticks-length_by) ((rw (tick_is c.before.before.before) at (sym c.valid.ensures)) ∙ c.if-valid.false)
