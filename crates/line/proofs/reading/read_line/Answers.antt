@@ -96,7 +96,7 @@ module _ (text : List ℕ) (line : ℕ) where
 -- the same at the code's places
 abbrev first : (c : In-Number) → First c.args.text.now
 first c = record {
-  short = c.if-text-gt64.false;
+  short = omega arith;
   from = c.in-Number.from;
   end = c.in-Number.first;
   found = sym c.number_from.ensures ∙ c.in-Number.is;
@@ -124,7 +124,7 @@ pub returns-then-text-gt64 : goal.returns-then-text-gt64
 returns-then-text-gt64 c = sym (long_line _ _ c.if-text-gt64.true)
 
 pub returns-in_default : goal.returns-in_default
-returns-in_default c = sym (no_first _ _ c.if-text-gt64.false (sym c.number_from.ensures ∙ c.in_default.is))
+returns-in_default c = sym (no_first _ _ (omega arith) (sym c.number_from.ensures ∙ c.in_default.is))
 
 pub returns-then-first-text : goal.returns-then-first-text
 returns-then-first-text c = sym (one_only _ _ (first (goal.at.returns-then-first-text c).In-Number) c.if-first-text.true)
