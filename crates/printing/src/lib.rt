@@ -1,4 +1,6 @@
 // Printed lines: an answer to its line of text, in plain decimals.
 // Nothing here knows of files: a line goes into a lent buffer at a place.
+#![tactic(auto)]
+
 mod decimal;
 pub mod writing;

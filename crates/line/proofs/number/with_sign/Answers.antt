@@ -1,6 +1,5 @@
 -- `line::number::with_sign` meets its contract: each way out is one of the cases of `Fitting`. A
 -- negative number −n is −1 − (n − 1), so that −2^63 needs no case of its own. Assumes nothing.
-use borrow.Author.Rules.{rules}
 use mathlib.Core.Path.{◌≡◌, sym, ◌∙◌, ap}
 use mathlib.Core.Bool.{Bool, true, false}
 use Prim.Native.Nat.{ℕ, suc, ◌-◌, ◌≤◌, ◌<◌, ◌^◌}
@@ -16,8 +15,7 @@ use Rattle.line.specs.Scan.{found_at}
 use Rattle.line.specs.declared.number.Scanned.{Scanned}
 use Rattle.line.specs.declared.number.Scanned.TheVariants.{Number}
 use Rattle.line.proofs.Fitting.{positive_fits, positive_far, negative_fits, negative_zero, negative_far}
-use Rattle.line.proofs.number.with_sign.Statement.{statement}
-use Rattle.line.proofs.number.with_sign.Tie as tie
+use Rattle.line.proofs.number.with_sign.Goals as goal
 
 -- the answer for a sign that a test has shown
 signed_so : (negative sign : Bool) (size end : ℕ) (r : Scanned) → negative ≡ sign
@@ -45,40 +43,22 @@ module _ (size : ℕ) (above : 0 < size) (below : size ≤ 2 ^ 63) where
       ap (λ (z : ℤ). Number z end) (to_z-of_z w64 _ fits ∙ minus)
       ∙ sym (ap (λ (n : ℕ). found_at (fitting (signed true n)) end) (sym e) ∙ rw (negative_fits (size - 1) (omega arith)))
 
-sub-t10 : tie.Need-overflow-sub-t10
-sub-t10 c = search rules
+pub overflow_sub-result-else-size-eq0 : goal.overflow_sub-result-else-size-eq0
+overflow_sub-result-else-size-eq0 c = fits c.args.size (omega arith) (omega arith)
 
-cast-t11 : tie.Need-overflow-cast-t11
-cast-t11 c = search rules
+pub returns-then-size-gt9223372036854775808 : goal.returns-then-size-gt9223372036854775808
+returns-then-size-gt9223372036854775808 c = let a = c.args in signed_so _ true a.size a.end _ c.if-negative.true (rw (negative_far a.size c.if-size-gt9223372036854775808.true))
 
-sub-t12 : tie.Need-overflow-sub-t12
-sub-t12 c = fits c.before.before.before.args.size (omega arith) (omega arith)
+pub returns-then-size-eq0 : goal.returns-then-size-eq0
+returns-then-size-eq0 c = signed_so _ true c.args.size c.args.end _ c.if-negative.true (rw (c.if-size-eq0.true, negative_zero))
 
-cast-t15 : tie.Need-overflow-cast-t15
-cast-t15 c = search rules
+pub returns-else-size-eq0 : goal.returns-else-size-eq0
+returns-else-size-eq0 c = signed_so _ true c.args.size c.args.end _ c.if-negative.true (minus_is c.args.size (omega arith) (omega arith) c.args.end)
 
-returns : tie.Need-returns
-returns c = let a = c.before.before.args in signed_so _ true a.size a.end _ c.before.if1.true (rw (negative_far a.size c.if2.true))
+pub returns-then-size-gt9223372036854775807 : goal.returns-then-size-gt9223372036854775807
+returns-then-size-gt9223372036854775807 c = let a = c.args in signed_so _ false a.size a.end _ c.if-negative.false (rw (positive_far a.size (omega arith)))
 
-returns-2 : tie.Need-returns-2
-returns-2 c =
-    let a = c.before.before.before.args in signed_so _ true a.size a.end _ c.before.before.if1.true (rw (c.if3.true, negative_zero))
-
-returns-3 : tie.Need-returns-3
-returns-3 c =
-    let a = c.before.before.before.args in
-    signed_so _ true a.size a.end _ c.before.before.if1.true (minus_is a.size (omega arith) (omega arith) a.end)
-
-returns-4 : tie.Need-returns-4
-returns-4 c = let a = c.before.before.args in signed_so _ false a.size a.end _ c.before.if1.false (rw (positive_far a.size (omega arith)))
-
-returns-5 : tie.Need-returns-5
-returns-5 c =
-    let a = c.before.before.args in
-    let h : a.size < 2 ^ 63 = omega arith in
-    signed_so _ false a.size a.end _ c.before.if1.false (rw (to_z_pos w64 a.size h, positive_fits a.size h))
-
-pub with_sign_spec : {M : Type 1} → statement M
-with_sign_spec =
-    tie.close
-    (tie.spec sub-t10 cast-t11 sub-t12 cast-t15 returns returns-2 returns-3 returns-4 returns-5)
+pub returns-else-size-gt9223372036854775807 : goal.returns-else-size-gt9223372036854775807
+returns-else-size-gt9223372036854775807 c =
+    let h : c.args.size < 2 ^ 63 = omega arith in
+    signed_so _ false c.args.size c.args.end _ c.if-negative.false (rw (to_z_pos w64 c.args.size h, positive_fits c.args.size h))

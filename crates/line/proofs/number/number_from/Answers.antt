@@ -1,11 +1,10 @@
 -- `line::number::number_from` meets its contract: a minus is the first byte of its field, and the
 -- digits after it are the rest. Assumes nothing.
-use borrow.Author.Rules.{rules}
 use mathlib.Core.Path.{◌≡◌, refl, sym, ◌∙◌, ap}
 use mathlib.Core.Bool.{true, false}
 use mathlib.Core.List.{List, [], ◌∷◌}
 use mathlib.Core.Option.{Option}
-use Prim.Native.Nat.{ℕ, suc, ◌+◌, ◌-◌, ◌≤◌}
+use Prim.Native.Nat.{ℕ, suc, ◌+◌, ◌≤◌}
 use native.Mathlib.Omega.{arith}
 use lib.Dec.{eqb}
 use lib.IntN.{ℤ}
@@ -15,8 +14,7 @@ use borrow.Author.Tests.{eqb-true}
 use Rattle.line.specs.Numbers.{digits_number, number_in}
 use Rattle.line.specs.Scan.{field, found_at, digits_at, number_scanned, starts_with_minus, minus_at}
 use Rattle.line.proofs.Cases.{either}
-use Rattle.line.proofs.number.number_from.Statement.{statement}
-use Rattle.line.proofs.number.number_from.Tie as tie
+use Rattle.line.proofs.number.number_from.Goals as goal
 
 -- a text that starts with a minus, and one that does not
 minus_then : (text : List ℕ) → starts_with_minus text ≡ true → text ≡ 45 ∷ drop 1 text
@@ -45,31 +43,11 @@ module _ (text : List ℕ) (at : ℕ) where
   unfolding digits_at number_scanned
   plain e = ap (λ (o : Option ℤ). found_at o (at + length (field (drop at text)))) (no_minus (drop at text) e)
 
-minus-at-requires : tie.Need-minus-at-requires
-minus-at-requires c κs = search rules
+pub digits_number-requires : goal.digits_number-requires
+digits_number-requires c = room _ _ (sym c.minus_at.ensures ∙ c.if-minus_at.true)
 
-digits-number-requires : tie.Need-digits-number-requires
-digits-number-requires c κs = room _ _ (sym c.before.minus-at.ensures ∙ c.if1.true)
+pub returns-then-minus_at : goal.returns-then-minus_at
+returns-then-minus_at c = c.digits_number.ensures ∙ negative _ _ (sym c.minus_at.ensures ∙ c.if-minus_at.true)
 
-add-digits-number : tie.Need-overflow-add-digits-number
-add-digits-number c = search rules
-
-digits-number-requires-2 : tie.Need-digits-number-requires-2
-digits-number-requires-2 c κs = search rules
-
-returns : tie.Need-returns
-returns c = let b = c.before in c.digits_number.ensures ∙ negative _ _ (sym b.before.minus-at.ensures ∙ b.if1.true)
-
-returns-2 : tie.Need-returns-2
-returns-2 c = let b = c.before in c.digits-number2.ensures ∙ plain _ _ (sym b.before.minus-at.ensures ∙ b.if1.false)
-
-pub number_from_spec : {M : Type 1} → statement M
-number_from_spec =
-    tie.close
-    (tie.spec
-    minus-at-requires
-    add-digits-number
-    digits-number-requires
-    digits-number-requires-2
-    returns
-    returns-2)
+pub returns-else-minus_at : goal.returns-else-minus_at
+returns-else-minus_at c = c.digits_number-else-minus_at.ensures ∙ plain _ _ (sym c.minus_at.ensures ∙ c.if-minus_at.false)

@@ -13,8 +13,8 @@ use Rattle.printing.specs.Texts.{decimal, integer_text, answer_text, printed, sp
 use Rattle.printing.specs.Buffers.{Room, TextPut, longest}
 use Rattle.printing.proofs.Filling.{length_kept, place_inside, then_text, then_byte, then_room}
 use Rattle.printing.proofs.Lengths.{integer_length, small_length, answer_length}
-use Rattle.printing.proofs.writing.write_answer.Statement.{statement}
-use Rattle.printing.proofs.writing.write_answer.Tie as tie
+use Rattle.printing.proofs.writing.write_answer.Goals as goal
+use Rattle.printing.proofs.writing.write_answer.Goals.{After-put_integer-first, After-put_integer-second, Start}
 
 -- what is given: a buffer and a place with room for the longest line, and numbers of the
 -- parameters' types
@@ -102,7 +102,7 @@ module _ (w : Given) where
         same : (byte : ℕ) → length (set left₃ next₃ byte) ≡ length w.out
         same byte = length-set left₃ next₃ byte ∙ length_kept text₅ (omega (arith, far₅))
 
-abbrev given : tie.Start → Given
+abbrev given : Start → Given
 given c = record {
   out = c.args.out.now;
   at = c.args.at;
@@ -115,91 +115,71 @@ given c = record {
   steps_small = c.ranges.steps.fits;
 }
 
-to_back : (c : tie.Start) → to_z w64 (of_z w64 c.args.to) ≡ c.args.to
+to_back : (c : Start) → to_z w64 (of_z w64 c.args.to) ≡ c.args.to
 to_back c = to_z-of_z w64 c.args.to c.ranges.to
 
-tick_back : (c : tie.Start) → to_z w64 (of_z w64 c.args.tick) ≡ c.args.tick
+tick_back : (c : Start) → to_z w64 (of_z w64 c.args.tick) ≡ c.args.tick
 tick_back c = to_z-of_z w64 c.args.tick c.ranges.tick
 
 -- the two integers put, as the calls say it
-abbrev start : tie.After-slice-known2 → tie.Start
-start k = k.before.before.before.before.before
+abbrev start : After-put_integer-first → Start
+start k = (goal.at.After-put_integer-first k).Start
 
-first_put : (k : tie.After-slice-known2)
+first_put : (k : After-put_integer-first)
     → TextPut (start k).args.out.now (start k).args.at (integer_text (start k).args.to)
-    k.before.before.put-integer.new.0
-    k.before.before.put-integer.result
-first_put k = rw (to_back (start k)) at k.before.before.put-integer.ensures
+    k.put_integer-first.new.out
+    k.put_integer-first.result
+first_put k = rw (to_back (start k)) at k.put_integer-first.ensures
 
-abbrev earlier : tie.After-slice-known3 → tie.After-slice-known2
-earlier l = l.before.before.before.before
+abbrev earlier : After-put_integer-second → After-put_integer-first
+earlier l = (goal.at.After-put_integer-second l).After-put_integer-first
 
-second_put : (l : tie.After-slice-known3)
+second_put : (l : After-put_integer-second)
     → TextPut
-    (set (earlier l).before.before.put-integer.new.0 (earlier l).before.before.put-integer.result 32)
-    ((earlier l).before.before.put-integer.result + 1)
+    (set (earlier l).put_integer-first.new.out (earlier l).put_integer-first.result 32)
+    ((earlier l).put_integer-first.result + 1)
     (integer_text (start (earlier l)).args.tick)
-    l.before.before.put-integer2.new.0
-    l.before.before.put-integer2.result
-second_put l = rw (tick_back (start (earlier l))) at l.before.before.put-integer2.ensures
+    l.put_integer-second.new.out
+    l.put_integer-second.result
+second_put l = rw (tick_back (start (earlier l))) at l.put_integer-second.ensures
 
-put-integer-requires : tie.Need-put-integer-requires
-put-integer-requires c κs = let s = c.before.before in rw (to_back s) (room_1 (given s))
+pub put_integer-first-requires : goal.put_integer-first-requires
+put_integer-first-requires c = rw (to_back (goal.at.put_integer-first-requires c).Start) (room_1 (given (goal.at.put_integer-first-requires c).Start))
 
-slice-write-out : tie.Need-slice-write-out
-slice-write-out k = here (given (start k)) _ _ (first_put k)
+pub bounds-out-first : goal.bounds-out-first
+bounds-out-first c = let k = (goal.at.bounds-out-first c).After-put_integer-first in here (given (start k)) _ _ (first_put k)
 
-add-put-integer : tie.Need-overflow-add-put-integer
-add-put-integer c = let k = c.before in let h = inside (given (start k)) _ _ (first_put k) in omega arith
+pub overflow_add-first : goal.overflow_add-first
+overflow_add-first c = let h = inside (given (start (goal.at.overflow_add-first c).After-put_integer-first)) _ _ (first_put (goal.at.overflow_add-first c).After-put_integer-first) in omega arith
 
-put-integer-requires-2 : tie.Need-put-integer-requires-2
-put-integer-requires-2 c κs = let k = c.before in rw (tick_back (start k)) (room_2 (given (start k)) _ _ (first_put k))
+pub put_integer-second-requires : goal.put_integer-second-requires
+put_integer-second-requires c = rw (tick_back (start (goal.at.put_integer-second-requires c).After-put_integer-first)) (room_2 (given (start (goal.at.put_integer-second-requires c).After-put_integer-first)) _ _ (first_put (goal.at.put_integer-second-requires c).After-put_integer-first))
 
-slice-write-out-2 : tie.Need-slice-write-out-2
-slice-write-out-2 l = let k = earlier l in here₂ (given (start k)) _ _ (first_put k) _ _ (second_put l)
+pub bounds-out-second : goal.bounds-out-second
+bounds-out-second c = let l = (goal.at.bounds-out-second c).After-put_integer-second in let k = earlier l in here₂ (given (start k)) _ _ (first_put k) _ _ (second_put l)
 
-add-put-decimal : tie.Need-overflow-add-put-decimal
-add-put-decimal c = let l = c.before in let k = earlier l in let h = inside₂ (given (start k)) _ _ (first_put k) _ _ (second_put l) in omega arith
+pub overflow_add-second : goal.overflow_add-second
+overflow_add-second c = let k = earlier (goal.at.overflow_add-second c).After-put_integer-second in let h = inside₂ (given (start k)) _ _ (first_put k) _ _ (second_put (goal.at.overflow_add-second c).After-put_integer-second) in omega arith
 
-put-decimal-requires : tie.Need-put-decimal-requires
-put-decimal-requires c κs = let l = c.before in let k = earlier l in room_3 (given (start k)) _ _ (first_put k) _ _ (second_put l)
+pub put_decimal-third-requires : goal.put_decimal-third-requires
+put_decimal-third-requires c = let k = earlier (goal.at.put_decimal-third-requires c).After-put_integer-second in room_3 (given (start k)) _ _ (first_put k) _ _ (second_put (goal.at.put_decimal-third-requires c).After-put_integer-second)
 
-slice-write-out-3 : tie.Need-slice-write-out-3
-slice-write-out-3 c =
-    let l = c.before.before.before.before in
-    let k = earlier l in
-    here₃ (given (start k)) _ _ (first_put k) _ _ (second_put l) _ _ c.before.before.put-decimal.ensures
+pub bounds-out-third : goal.bounds-out-third
+bounds-out-third c =
+    let k = earlier (goal.at.bounds-out-third c).After-put_integer-second in
+    here₃ (given (start k)) _ _ (first_put k) _ _ (second_put (goal.at.bounds-out-third c).After-put_integer-second) _ _ c.put_decimal-third.ensures
 
-add-result : tie.Need-overflow-add-result
-add-result c =
-    let l = c.before.before.before.before in
-    let k = earlier l in
-    let h = inside₃ (given (start k)) _ _ (first_put k) _ _ (second_put l) _ _ c.before.before.put-decimal.ensures in omega arith
+pub overflow_add-result : goal.overflow_add-result
+overflow_add-result c =
+    let k = earlier (goal.at.overflow_add-result c).After-put_integer-second in
+    let h = inside₃ (given (start k)) _ _ (first_put k) _ _ (second_put (goal.at.overflow_add-result c).After-put_integer-second) _ _ c.put_decimal-third.ensures in omega arith
 
-same_length : tie.Need-same-length
-same_length c =
-    let l = c.before.before.before.before in
-    let k = earlier l in
-    same (given (start k)) _ _ (first_put k) _ _ (second_put l) _ _ c.before.before.put-decimal.ensures _
+pub shape_of-out : goal.shape_of-out
+shape_of-out c =
+    let k = earlier (goal.at.shape_of-out c).After-put_integer-second in
+    same (given (start k)) _ _ (first_put k) _ _ (second_put (goal.at.shape_of-out c).After-put_integer-second) _ _ c.put_decimal-third.ensures _
 
-returns : tie.Need-returns
+pub returns : goal.returns
 returns c =
-    let l = c.before.before.before.before in
-    let k = earlier l in
-    whole (given (start k)) _ _ (first_put k) _ _ (second_put l) _ _ c.before.before.put-decimal.ensures
-
-pub write_answer_spec : {M : Type 1} → statement M
-write_answer_spec =
-    tie.close
-    (tie.spec
-    put-integer-requires
-    slice-write-out
-    add-put-integer
-    put-integer-requires-2
-    slice-write-out-2
-    add-put-decimal
-    put-decimal-requires
-    slice-write-out-3
-    add-result
-    same_length
-    returns)
+    let k = earlier (goal.at.returns c).After-put_integer-second in
+    whole (given (start k)) _ _ (first_put k) _ _ (second_put (goal.at.returns c).After-put_integer-second) _ _ c.put_decimal-third.ensures

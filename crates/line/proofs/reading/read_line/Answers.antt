@@ -15,8 +15,8 @@ use Rattle.line.specs.declared.number.Scanned.TheVariants.{Number, Wrong}
 use Rattle.line.specs.declared.reading.Line.TheVariants.{Numbers}
 use Rattle.line.proofs.Splitting.{numbers_from, one_more, wrong_at, number_more, number_last, short_line, long_line}
 use borrow.Author.Rules.{rules}
-use Rattle.line.proofs.reading.read_line.Statement.{statement}
-use Rattle.line.proofs.reading.read_line.Tie as tie
+use Rattle.line.proofs.reading.read_line.Goals as goal
+use Rattle.line.proofs.reading.read_line.Goals.{In-Number, In-Number-number_from, In-Number-number_from-2, Start}
 
 -- what is known once one, two and three numbers are found
 record First (text : List ℕ) : Type 0 where
@@ -94,129 +94,57 @@ module _ (text : List ℕ) (line : ℕ) where
         ∙ one_more text (all.end + 1) all.two.one.from all.two.to all.tick line
 
 -- the same at the code's places
-abbrev start : tie.After-known-told → tie.Start
-start c = c.before.before.before.before.before.before
-
-abbrev first : (c : tie.After-known-told) → First (start c).args.text.now
+abbrev first : (c : In-Number) → First c.args.text.now
 first c = record {
-  short = c.before.before.before.before.if1.false;
-  from = c.before.from.given.0.0;
-  end = c.before.from.given.0.1.0;
-  found = sym c.before.before.before.number-from.ensures ∙ c.before.from.given.1;
+  short = omega arith;
+  from = c.in-Number.from;
+  end = c.in-Number.first;
+  found = sym c.number_from.ensures ∙ c.in-Number.is;
 }
 
-abbrev before_second : tie.After-known-told2 → tie.After-known-told
-before_second c = c.before.before.before.before.before
-
-abbrev second : (c : tie.After-known-told2) → Second (start (before_second c)).args.text.now
+abbrev second : (c : In-Number-number_from) → Second c.args.text.now
 second c = record {
-  one = first (before_second c);
-  more = c.before.before.before.before.if2.false;
-  to = c.before.to.given.0.0;
-  end = c.before.to.given.0.1.0;
-  found = sym c.before.before.before.number-from2.ensures ∙ c.before.to.given.1;
+  one = first (goal.at.In-Number-number_from c).In-Number;
+  more = c.if-first-text.false;
+  to = c.in-Number-number_from.to;
+  end = c.in-Number-number_from.second;
+  found = sym c.number_from-2.ensures ∙ c.in-Number-number_from.is;
 }
 
-abbrev before_third : tie.After-known-told3 → tie.After-known-told2
-before_third c = c.before.before.before.before.before
-
-abbrev third : (c : tie.After-known-told3) → Third (start (before_second (before_third c))).args.text.now
+abbrev third : (c : In-Number-number_from-2) → Third c.args.text.now
 third c = record {
-  two = second (before_third c);
-  more = c.before.before.before.before.if3.false;
-  tick = c.before.tick.given.0.0;
-  end = c.before.tick.given.0.1.0;
-  found = sym c.before.before.before.number-from3.ensures ∙ c.before.tick.given.1;
+  two = second (goal.at.In-Number-number_from-2 c).In-Number-number_from;
+  more = c.if-second-text.false;
+  tick = c.in-Number-number_from-2.tick;
+  end = c.in-Number-number_from-2.third;
+  found = sym c.number_from-3.ensures ∙ c.in-Number-number_from-2.is;
 }
 
-returns : tie.Need-returns
-returns c = sym (long_line _ _ c.if1.true)
+pub returns-then-text-gt64 : goal.returns-then-text-gt64
+returns-then-text-gt64 c = sym (long_line _ _ c.if-text-gt64.true)
 
-number-from-requires : tie.Need-number-from-requires
-number-from-requires c κs = search rules
+pub returns-in_default : goal.returns-in_default
+returns-in_default c = sym (no_first _ _ (omega arith) (sym c.number_from.ensures ∙ c.in_default.is))
 
-enum-known-from : tie.Need-enum-known-from
-enum-known-from c = search rules
+pub returns-then-first-text : goal.returns-then-first-text
+returns-then-first-text c = sym (one_only _ _ (first (goal.at.returns-then-first-text c).In-Number) c.if-first-text.true)
 
-enum_told : tie.Need-enum-told
-enum_told c = search rules
+pub returns-in_default-number_from : goal.returns-in_default-number_from
+returns-in_default-number_from c = sym (no_second _ _ (first (goal.at.returns-in_default-number_from c).In-Number) c.if-first-text.false (sym c.number_from-2.ensures ∙ c.in_default-number_from.is))
 
-returns-2 : tie.Need-returns-2
-returns-2 c = sym (no_first _ _ c.before.before.before.if1.false (sym c.before.before.number-from.ensures ∙ c.enum_told.given.1))
+pub returns-then-second-text : goal.returns-then-second-text
+returns-then-second-text c = sym (two_only _ _ (second (goal.at.returns-then-second-text c).In-Number-number_from) c.if-second-text.true)
 
-returns-3 : tie.Need-returns-3
-returns-3 c = sym (one_only _ _ (first c.before) c.if2.true)
+pub returns-in_default-number_from-2 : goal.returns-in_default-number_from-2
+returns-in_default-number_from-2 c = sym (no_third _ _ (second (goal.at.returns-in_default-number_from-2 c).In-Number-number_from) c.if-second-text.false (sym c.number_from-3.ensures ∙ c.in_default-number_from-2.is))
 
-add-number-from : tie.Need-overflow-add-number-from
-add-number-from c = search rules
+pub returns-then-third-text : goal.returns-then-third-text
+returns-then-third-text c = sym (too_many _ _ (third (goal.at.returns-then-third-text c).In-Number-number_from-2) c.if-third-text.true)
 
-number-from-requires-2 : tie.Need-number-from-requires-2
-number-from-requires-2 c κs = search rules
-
-enum-known-to : tie.Need-enum-known-to
-enum-known-to c = search rules
-
-enum-told-2 : tie.Need-enum-told-2
-enum-told-2 c = search rules
-
-returns-4 : tie.Need-returns-4
-returns-4 c =
-    let e = c.before.before.before in
-    sym (no_second _ _ (first e.before) e.if2.false (sym c.before.before.number-from2.ensures ∙ c.enum-told2.given.1))
-
-returns-5 : tie.Need-returns-5
-returns-5 c = sym (two_only _ _ (second c.before) c.if3.true)
-
-add-number-from-2 : tie.Need-overflow-add-number-from-2
-add-number-from-2 c = search rules
-
-number-from-requires-3 : tie.Need-number-from-requires-3
-number-from-requires-3 c κs = search rules
-
-enum-known-tick : tie.Need-enum-known-tick
-enum-known-tick c = search rules
-
-enum-told-3 : tie.Need-enum-told-3
-enum-told-3 c = search rules
-
-returns-6 : tie.Need-returns-6
-returns-6 c =
-    let e = c.before.before.before in
-    sym (no_third _ _ (second e.before) e.if3.false (sym c.before.before.number-from3.ensures ∙ c.enum-told3.given.1))
-
-returns-7 : tie.Need-returns-7
-returns-7 c = sym (too_many _ _ (third c.before) c.if4.true)
-
-returns-8 : tie.Need-returns-8
-returns-8 c =
-    let l = c.before in
-    let k = before_third l in
+pub returns : goal.returns
+returns c =
     rw (
-      to_z-of_z w64 _ (record { sfits = (before_second k).known-told.given.0.1 }),
-      to_z-of_z w64 _ (record { sfits = k.known-told2.given.0.1 }),
-      to_z-of_z w64 _ (record { sfits = l.known-told3.given.0.1 }),
-    ) (sym (all_three _ _ (third l) c.if4.false))
-
-pub read_line_spec : {M : Type 1} → statement M
-read_line_spec =
-    tie.close
-    (tie.spec
-    returns
-    number-from-requires
-    enum-known-from
-    enum_told
-    returns-2
-    returns-3
-    add-number-from
-    number-from-requires-2
-    enum-known-to
-    enum-told-2
-    returns-4
-    returns-5
-    add-number-from-2
-    number-from-requires-3
-    enum-known-tick
-    enum-told-3
-    returns-6
-    returns-7
-    returns-8)
+      to_z-of_z w64 c.in-Number.from (search rules),
+      to_z-of_z w64 c.in-Number-number_from.to (search rules),
+      to_z-of_z w64 c.in-Number-number_from-2.tick (search rules),
+    ) (sym (all_three _ _ (third (goal.at.returns c).In-Number-number_from-2) c.if-third-text.false))

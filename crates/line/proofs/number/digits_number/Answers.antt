@@ -1,6 +1,5 @@
 -- `line::number::digits_number` meets its contract: the field is the run of digits, or it holds
 -- another byte. Assumes nothing.
-use borrow.Author.Rules.{rules}
 use mathlib.Core.Path.{◌≡◌, sym, ◌∙◌, ap}
 use mathlib.Core.Bool.{Bool, false}
 use mathlib.Core.List.{List}
@@ -17,8 +16,8 @@ use Rattle.line.specs.declared.number.Run.{Run}
 use Rattle.line.specs.declared.number.Scanned.TheVariants.{Wrong}
 use Rattle.line.proofs.Runs.{run_digits, run_ends, run_space, run_spoilt, field_or, none_spoilt, none_short, none_long, some_digits}
 use Rattle.line.proofs.Fitting.{cap_fits}
-use Rattle.line.proofs.number.digits_number.Statement.{statement}
-use Rattle.line.proofs.number.digits_number.Tie as tie
+use Rattle.line.proofs.number.digits_number.Goals as goal
+use Rattle.line.proofs.number.digits_number.Goals.{then-end-text+else-text-end-ne32, else-end-text}
 
 module _ (negative : Bool) (text : List ℕ) (at : ℕ) (run : Run) (is : run ≡ run_from (drop at text) at) where
   abbrev front : List ℕ
@@ -69,46 +68,23 @@ module _ (negative : Bool) (text : List ℕ) (at : ℕ) (run : Run) (is : run �
       let g : length (digits_of front) ≤ 20 = omega (arith, ends) in
       rw (e, some_digits negative (digits_of front) l g (run_digits front), ends, value, cap_fits negative (value_of (digits_of front)))
 
-digits-from-requires : tie.Need-digits-from-requires
-digits-from-requires c κs = search rules
+pub returns-then-end-at : goal.returns-then-end-at
+returns-then-end-at c = empty _ _ _ _ c.digits_from-run.ensures c.if-end-at.true
 
-returns : tie.Need-returns
-returns c = empty _ _ _ _ c.before.digits_from.ensures c.if1.true
+pub overflow_sub-end : goal.overflow_sub-end
+overflow_sub-end c = let a = c.args in omega (arith, ends a.negative a.text.now a.at _ c.digits_from-run.ensures)
 
-sub-if2 : tie.Need-overflow-sub-if2
-sub-if2 c = let a = c.before.before.before.args in omega (arith, ends a.negative a.text.now a.at _ c.before.digits_from.ensures)
+pub returns-then-end-at-gt20 : goal.returns-then-end-at-gt20
+returns-then-end-at-gt20 c = long _ _ _ _ c.digits_from-run.ensures c.if-end-at-gt20.true
 
-returns-2 : tie.Need-returns-2
-returns-2 c = long _ _ _ _ c.before.before.digits_from.ensures c.if2.true
+pub returns-then-text-end-ne32 : goal.returns-then-text-end-ne32
+returns-then-text-end-ne32 c = spoilt _ _ _ _ c.digits_from-run.ensures c.if-end-text.true c.if-text-end-ne32.true
 
-shared-slice-read-if4 : tie.Need-shared-slice-read-if4
-shared-slice-read-if4 c = search rules
-
-returns-3 : tie.Need-returns-3
-returns-3 c = spoilt _ _ _ _ c.before.before.before.before.before.digits_from.ensures c.before.before.if3.true c.if4.true
-
-with-sign-requires : tie.Need-with-sign-requires
-with-sign-requires c κs = search rules
-
-returns-4 : tie.Need-returns-4
-returns-4 c =
-    let j = c.before in
-    let o = j.before.before.before in
-    let a = o.before.before.args in
-    let is = o.digits_from.ensures in
-    c.with-sign.ensures ∙ right a.negative a.text.now a.at _ is j.before.before.if1.false j.before.if2.false
-    (⊎_elim (λ w. at_space a.negative a.text.now a.at _ is w.0.taken w.2.left)
-    (λ w. at_end a.negative a.text.now a.at _ is w.left) j.if3.branch)
-
-pub digits_number_spec : {M : Type 1} → statement M
-digits_number_spec =
-    tie.close
-    (tie.spec
-    digits-from-requires
-    returns
-    sub-if2
-    returns-2
-    shared-slice-read-if4
-    returns-3
-    with-sign-requires
-    returns-4)
+pub returns : goal.returns
+returns c =
+    let is = c.digits_from-run.ensures in
+    c.with_sign.ensures ∙ right c.args.negative c.args.text.now c.args.at _ is c.if-end-at.false c.if-end-at-gt20.false
+    (elim c.if-end-text.branch [
+      | then-end-text+else-text-end-ne32 w ↦ at_space c.args.negative c.args.text.now c.args.at _ is w.if-end-text.true w.if-text-end-ne32.false
+      | else-end-text w ↦ at_end c.args.negative c.args.text.now c.args.at _ is w.if-end-text.false
+    ])
