@@ -1,5 +1,7 @@
 // The coefficients of a table that bytes hold. They are taken out once, however many conversions
 // are made over them.
+#![tactic(auto)]
+
 ghost use Rattle.std.specs.Prelude.{◌≡◌, pos, replicate};
 ghost use Rattle.image.specs.Bounds.{most_coefficients};
 ghost use Rattle.image.specs.Image.{how_many};

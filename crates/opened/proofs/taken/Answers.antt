@@ -1,0 +1,39 @@
+-- `opened::taken` meets its contract: the coefficients are taken into the front of the room.
+-- Assumes nothing.
+use borrow.Author.Rules.{rules}
+use mathlib.Core.Path.{sym, ◌∙◌, ap, ap₂}
+use native.Mathlib.Omega.{arith}
+use lib.ListN.{length, drop, length-append}
+use lib.Seq.{length-take-le, take_at, drop_at}
+use Rattle.blocks.proofs.Accepting.{accepted_blocks}
+use Rattle.image.proofs.Back.{stored_whole}
+use Rattle.image.proofs.Slots.{room}
+use Rattle.opened.proofs.Opening.{few}
+use Rattle.opened.proofs.taken.Goals as goal
+use Rattle.opened.proofs.taken.Goals.{After-struct_known-2-1}
+
+pub slice_bounds-coefficients-end : goal.slice_bounds-coefficients-end
+slice_bounds-coefficients-end c = omega (arith, room _ _ (few _ _ c.requires.accepted), c.room-coefficients.type_inv, c.how_many-many.ensures)
+
+pub slice_bounds-take_coefficients-end : goal.slice_bounds-take_coefficients-end
+slice_bounds-take_coefficients-end c = sym (length-take-le _ _ (slice_bounds-coefficients-end (goal.at.slice_bounds-take_coefficients-end c).After-struct_known-2-1))
+
+pub take_coefficients-requires : goal.take_coefficients-requires
+take_coefficients-requires c =
+    let o = c.requires.accepted in
+    record {
+      bounds = few _ _ o;
+      blocks = accepted_blocks _ _ o;
+      long = length-take-le _ _ (slice_bounds-coefficients-end (goal.at.take_coefficients-requires c).After-struct_known-2-1) ∙ c.how_many-many.ensures;
+    }
+
+pub returns : goal.returns
+returns c =
+    let l = c.take_coefficients in
+    let is = l.ensures in
+    let size = ap length is ∙ stored_whole _ _ _ in
+    record {
+      long = simp length-append (omega (arith, size));
+      front = take_at l.new.coefficients _ _ size ∙ is;
+      behind = drop_at l.new.coefficients _ _ size ∙ ap₂ drop c.how_many-many.ensures c.room-coefficients.ensures;
+    }
