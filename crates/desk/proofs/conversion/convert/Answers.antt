@@ -1,0 +1,6 @@
+-- `desk::conversion::convert` meets its contract. Assumes nothing.
+use borrow.Author.Rules.{rules}
+use Rattle.desk.proofs.conversion.convert.Goals as goal
+
+pub returns : goal.returns
+returns c = c.convert_into.ensures
