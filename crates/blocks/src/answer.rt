@@ -3,7 +3,7 @@ use image::table::Table;
 use scales::refusal::Refusal;
 
 // The table's numbers, or the refusal.
-#[derive(Drop)]
+#[derive(Clone, Copy)]
 pub enum Judged {
     Accepted(Table),
     Refused(Refusal),

@@ -18,14 +18,14 @@ use image::take::stored;
 use scales::refusal::Refusal;
 
 // What the tests of the coefficients tell.
-#[derive(Drop)]
+#[derive(Clone, Copy)]
 pub enum Tested {
     Passed,
     Refused(Refusal),
 }
 
 // What the pass keeps: the lowest rank so far with its granule, and the plain sum of the last one.
-#[derive(Drop)]
+#[derive(Clone, Copy)]
 pub struct Scan {
     pub rank: usize,
     pub place: usize,
@@ -33,7 +33,7 @@ pub struct Scan {
 }
 
 // The granule fails the first test, or the pass goes on.
-#[derive(Drop)]
+#[derive(Clone, Copy)]
 pub enum Next {
     Lowest,
     Onward(Scan),

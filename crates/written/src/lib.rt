@@ -1,5 +1,7 @@
 // A conversion into UTC: 'UTC is code 7 for readings and written readings only'. It answers a
 // written reading, where the desk's other conversions answer a tick.
+#![tactic(auto)]
+
 ghost use Rattle.std.specs.Prelude.{◌≡◌};
 ghost use Rattle.written.specs.Written.{write_utc_of};
 

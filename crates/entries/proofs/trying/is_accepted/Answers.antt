@@ -1,0 +1,21 @@
+-- `entries::trying::is_accepted` meets its contract. Assumes nothing.
+use borrow.Author.Rules.{rules}
+use mathlib.Core.Path.{◌≡◌, sym, ◌∙◌}
+use mir.Syntax.{w64}
+use mir.ValLaws.{to_z-of_z}
+use Rattle.entries.specs.Entries.{entry_of}
+use Rattle.entries.proofs.Loops.{entry_read}
+use Rattle.entries.proofs.trying.is_accepted.Goals as goal
+use Rattle.entries.proofs.trying.is_accepted.Goals.{After-between}
+
+-- the answer is that of the tick as it was given
+told : (c : After-between) → c.between.result
+    ≡ entry_of c.args.from c.args.to c.args.kept c.args.coefficients.now c.args.tick
+told c =
+    rw (c.ranged.ensures, to_z-of_z w64 _ c.ranges.tick) at c.between.ensures ∙ entry_read _ _ _ _ _
+
+pub returns-in-Converted : goal.returns-in-Converted
+returns-in-Converted c = rw (sym (told (goal.at.returns-in-Converted c).After-between) ∙ c.in-Converted.is)
+
+pub returns-in-Refused : goal.returns-in-Refused
+returns-in-Refused c = rw (sym (told (goal.at.returns-in-Refused c).After-between) ∙ c.in-Refused.is)
