@@ -1,5 +1,7 @@
 // The second list of a batch, filled: every entry is tried first, and only where all are accepted
 // is anything written.
+#![tactic(auto)]
+
 mod steps;
 
 ghost use Rattle.std.specs.Prelude.{◌≡◌};

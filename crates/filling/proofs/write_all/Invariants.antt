@@ -1,0 +1,15 @@
+-- `filling::write_all` meets its contract: what is left of each entry's walk, from where
+-- the list stands, is that entry's conversion. The measure is what is left of the longest path.
+-- Assumes nothing.
+use mathlib.Core.Path.{sym, ◌∙◌}
+use Prim.Native.Nat.{◌-◌, ◌≤◌, zero-le}
+use borrow.Author.Rules.{rules}
+use Rattle.scales.specs.Path.{longest_path}
+use Rattle.filling.proofs.Writing.{Walked, walked_none, walked_more, walked_here, walked_all}
+use Rattle.filling.proofs.write_all.Given as goal
+
+abbrev pub invariant-loop-done : goal.invariant-loop-done
+invariant-loop-done l = (l.done ≤ longest_path) × Walked l.kept l.coefficients l.initial.scale l.to l.ticks l.done l.scale l.answers
+
+abbrev pub decreases-loop-done : goal.decreases-loop-done
+decreases-loop-done l = longest_path - l.done
