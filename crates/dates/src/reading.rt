@@ -73,6 +73,7 @@ fn placed(span: Span, per: i64, most: i64) -> Read
 
 // The refusal of two parts of which one does not pass: '2 over both parts, 3 over both parts (the
 // first part first in each)'.
+#[tactic(auto, unfolding(crate::specs::Readings::read_of_parts))]
 fn no_date(first: f64, second: f64) -> Read
     requires { (passing most_days first && passing most_days second) ≡ false }
     ensures { result ≡ read_of_parts first second }

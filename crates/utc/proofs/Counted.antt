@@ -9,11 +9,13 @@ use Prim.Native.Nat.{ℕ, zero, suc, ◌≤◌, ◌<◌}
 use native.Mathlib.Omega.{arith}
 use lib.Dec.{lit<}
 use lib.IntN.{ℤ, pos, neg_ℤ, ◌+ℤ◌, ◌-ℤ◌, ◌*ℤ◌}
-use lib.Signed.{◌≤ℤ◌, ◌<ℤ◌, le_z, ≤ℤ_refl}
+use lib.Signed.{◌≤ℤ◌, ◌<ℤ◌, le_z, lt_z, ≤ℤ_refl}
+use mir.Syntax.{w64}
+use mir.Val.{SFits, of_z, to_z}
 use Rattle.numbers.specs.Signs.{gap}
 use Rattle.numbers.specs.Rounding.{floor_div}
 use Rattle.numbers.proofs.Differences.{rep₂, rep₃, rep₄, lin}
-use Rattle.numbers.proofs.Machine.{le_yes, yes_le, no_le}
+use Rattle.numbers.proofs.Machine.{le_yes, lt_yes, yes_le, no_le, read_is}
 use Rattle.numbers.proofs.Order.{le_or_lt, ≤-antisym, ≤_trans, ≤-total}
 use Rattle.numbers.proofs.Rounding.{Floored, floored}
 use Rattle.utc.specs.declared.writing.UtcWritten.TheVariants as W
@@ -226,3 +228,12 @@ module _ (leaps : List ℤ) (e : is_list_right leaps ≡ true) where
       let first = ≤_trans (day_start leaps (pos list_day)) (day_start leaps day) tick (no_earlier_start day w.begun) w.from in
       let yes = yes_le (day_start leaps (pos list_day)) tick first in
       rw (yes, one_day leaps e tick (utc_day leaps tick) day (day_within tick first) w)
+
+-- a tick before day 41317, by the code's test
+pub early : (leaps : List ℤ) (tick : ℤ) → is_list_right leaps ≡ true → SFits w64 tick
+    → lt_z (to_z w64 (of_z w64 tick)) (neg_ℤ (pos 157852822184000000)) ≡ true
+    → W.Refused (record { number = 5; place = 0 }) ≡ utc_written leaps tick
+unfolding utc_written is_writable
+early leaps tick e f h =
+    let l = lt_yes _ _ (rw (read_is tick f) at h) in
+    let no = no_le (day_start leaps (pos list_day)) tick (rw (first_tick_lem leaps e) l) in rw no

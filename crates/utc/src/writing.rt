@@ -48,6 +48,7 @@ fn latest_day(tick: i64) -> i64
 // Writes a valid TAI tick as UTC, over a list that is right, which the caller has judged by refusal
 // 7. TAI−UTC moves by less than 127 s, so a tick is on the last day on which it can be, or on the
 // one before.
+#[tactic(auto, using(crate::proofs::Counted::early))]
 pub fn write(leaps: &[i64], tick: i64) -> UtcWritten
     requires { ToWrite leaps.now tick }
     ensures { result ≡ utc_written leaps.now tick }

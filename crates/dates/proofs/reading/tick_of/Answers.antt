@@ -1,7 +1,7 @@
 -- `dates::reading::tick_of` meets its contract: each arm is its own function's. Assumes nothing.
 use mathlib.Core.Path.{ap, ap₂, ◌∙◌}
-use mir.Syntax.{w64}
-use mir.ValLaws.{to_z-of_z}
+use native.Mathlib.Omega.{arith}
+use Rattle.std.proofs.lemmas.Int.{ints}
 use Rattle.utc.specs.Readings.{utc_read}
 use Rattle.dates.specs.Readings.{in_range, read_of, purpose_of}
 use Rattle.dates.proofs.reading.tick_of.Goals as goal
@@ -19,12 +19,8 @@ returns-in-SinceJ2000 c = rw c.in-SinceJ2000.is c.since_j2000.ensures
 
 pub returns-in-Ticks : goal.returns-in-Ticks
 unfolding read_of
-returns-in-Ticks c = rw c.in-Ticks.is (c.ranged.ensures ∙ ap in_range (to_z-of_z w64 _ (record { sfits = c.in-Ticks.known_told-in-Ticks-1-own.given.0.1 })))
+returns-in-Ticks c = rw c.in-Ticks.is (c.ranged.ensures ∙ ap in_range (omega (arith, ints)))
 
 pub returns-in-Utc : goal.returns-in-Utc
 unfolding read_of
-returns-in-Utc c =
-    let told = c.in-Utc.known_told-in-Utc-1-own.given in
-    rw c.in-Utc.is
-    (c.read.ensures
-    ∙ ap₂ (utc_read c.args.leaps.now) (to_z-of_z w64 _ (record { sfits = told.0.1 })) (to_z-of_z w64 _ (record { sfits = told.1.0.1 })))
+returns-in-Utc c = rw c.in-Utc.is (c.read.ensures ∙ ap₂ (utc_read c.args.leaps.now) (omega (arith, ints)) (omega (arith, ints)))

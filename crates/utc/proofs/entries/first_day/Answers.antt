@@ -1,6 +1,6 @@
 -- `utc::entries::first_day` meets its contract. Assumes nothing.
 use native.Mathlib.Omega.{arith}
-use Rattle.numbers.proofs.Machine.{read_is}
+use Rattle.std.proofs.lemmas.Int.{ints}
 use Rattle.utc.specs.Leaps.{entries, first_day}
 use Rattle.utc.proofs.entries.first_day.Goals as goal
 
@@ -18,4 +18,4 @@ bounds-leaps-entry c = omega arith
 
 pub returns : goal.returns
 unfolding first_day
-returns c = read_is _ (record { sfits = c.result-1.given })
+returns c = omega (arith, ints)

@@ -1,6 +1,6 @@
 -- `utc::entries::seconds_of` meets its contract. Assumes nothing.
 use native.Mathlib.Omega.{arith}
-use Rattle.numbers.proofs.Machine.{read_is}
+use Rattle.std.proofs.lemmas.Int.{ints}
 use Rattle.utc.specs.Leaps.{entries, seconds}
 use Rattle.utc.proofs.entries.seconds_of.Goals as goal
 
@@ -22,4 +22,4 @@ bounds-leaps-entry c = omega arith
 
 pub returns : goal.returns
 unfolding seconds
-returns c = read_is _ (record { sfits = c.result-1.given })
+returns c = omega (arith, ints)

@@ -18,7 +18,7 @@ use Rattle.utc.specs.Leaps.{entries, first_day, seconds, is_start_right, is_coun
 use Rattle.utc.proofs.Rules.{all_right, starts}
 use Rattle.utc.proofs.leaps.is_right.Invariants.{Judged}
 use Rattle.utc.proofs.leaps.is_right.Goals as goal
-use Rattle.utc.proofs.leaps.is_right.Goals.{After-is_start_right, At-loop-entry, Else-not-is_next_right, Else-not-is_start_right, In-loop-entry, then-count-eq0-via-else-count-eq0+then-count-gt64, then-count-eq0-via-then-count-eq0}
+use Rattle.utc.proofs.leaps.is_right.Goals.{After-is_start_right, At-loop-entry, Else-not-is_next_right, Else-not-is_start_right, In-loop-entry}
 
 -- what each test says of the whole
 module _ (leaps : List ℤ) where
@@ -87,12 +87,7 @@ module _ {leaps : List ℤ} (few : entries leaps ≤ most_entries) (n : ℕ) (j 
 
 pub returns-then-count-eq0 : goal.returns-then-count-eq0
 unfolding entries
-returns-then-count-eq0 c =
-    let leaps = c.args.leaps.now in
-    elim c.then-count-eq0.branch [
-      | then-count-eq0-via-then-count-eq0 w ↦ none leaps (omega arith)
-      | then-count-eq0-via-else-count-eq0+then-count-gt64 w ↦ many leaps (omega arith)
-    ]
+returns-then-count-eq0 c = grind (arith, none c.args.leaps.now, many c.args.leaps.now)
 
 pub is_start_right-requires : goal.is_start_right-requires
 unfolding entries
@@ -110,7 +105,7 @@ returns-then-not-is_start_right c = not_begun _ (sym (start_is (goal.at.returns-
 
 few_are : (c : Else-not-is_start_right) → entries c.args.leaps.now ≤ most_entries
 unfolding entries
-few_are c = c.if-count-gt64.false
+few_are c = omega arith
 
 pub loop-entry-init : goal.loop-entry-init
 unfolding entries

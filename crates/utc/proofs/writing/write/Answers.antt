@@ -5,31 +5,25 @@ use mathlib.Core.Bool.{true}
 use mathlib.Core.List.{List}
 use Prim.Native.Nat.{◌≤◌}
 use native.Mathlib.Omega.{arith}
+use Rattle.std.proofs.lemmas.Int.{ints}
 use lib.Dec.{lit<}
 use lib.IntN.{ℤ, pos, nat_abs, ◌-ℤ◌}
-use lib.Signed.{◌<ℤ◌}
+use lib.Signed.{◌≤ℤ◌, ◌<ℤ◌}
 use mir.Syntax.{w64}
 use mir.Val.{SFits}
 use Rattle.numbers.proofs.Differences.{rep, lin}
-use Rattle.numbers.proofs.Machine.{fits_small, le_yes, lt_no, lt_yes, no_le, read, read_is}
+use Rattle.numbers.proofs.Machine.{fits_small, le_yes, read, read_is}
 use Rattle.scales.proofs.Range.{valid_size}
-use Rattle.utc.specs.declared.writing.UtcWritten.TheVariants as W
-use Rattle.utc.specs.Leaps.{is_list_right, list_day}
+use Rattle.scales.specs.Tick.{is_valid}
+use Rattle.utc.specs.Leaps.{is_list_right}
 use Rattle.utc.specs.Days.{day_start}
-use Rattle.utc.specs.Readings.{is_writable, utc_written}
 use Rattle.utc.specs.Asked.{NearListed, Writable, first_tick, latest_day}
-use Rattle.utc.proofs.Counted.{first_tick_lem, within_written}
+use Rattle.utc.proofs.Counted.{within_written}
 use Rattle.utc.proofs.Fitting.{le_no}
 use Rattle.utc.proofs.Latest.{before_near, before_within, latest_near, latest_within}
 use Rattle.utc.proofs.Within.{Within, reading_size, within_reading}
 use Rattle.utc.proofs.writing.write.Goals as goal
-use Rattle.utc.proofs.writing.write.Goals.{After-day_start-start, After-day_start-start-2, After-latest_day-day, Else-start-tick, Else-tick-lt-FIRST_TICK, Start, Then-start-tick}
-
-early : (leaps : List ℤ) (tick : ℤ) → is_list_right leaps ≡ true → tick <ℤ first_tick
-    → W.Refused (record { number = 5; place = 0 }) ≡ utc_written leaps tick
-unfolding utc_written is_writable
-early leaps tick e h =
-    let no = no_le (day_start leaps (pos list_day)) tick (rw (first_tick_lem leaps e) h) in rw no
+use Rattle.utc.proofs.writing.write.Goals.{After-day_start-start, After-day_start-start-2, After-latest_day-day, Else-start-tick, Start, Then-start-tick}
 
 ticks_fit : (leaps : List ℤ) (tick day : ℤ) → is_list_right leaps ≡ true → Within leaps tick day
     → SFits w64 (tick -ℤ day_start leaps day)
@@ -38,21 +32,19 @@ ticks_fit leaps tick day e w = fits_small _ _ (reading_size (within_reading leap
 tick_is : (c : Start) → read c.args.tick ≡ c.args.tick
 tick_is c = read_is c.args.tick c.ranges.tick
 
-pub returns-then-tick-lt-FIRST_TICK : goal.returns-then-tick-lt-FIRST_TICK
-returns-then-tick-lt-FIRST_TICK c = early c.args.leaps.now c.args.tick c.requires.right (lt_yes _ _ (rw (tick_is (goal.at.returns-then-tick-lt-FIRST_TICK c).Start) at c.if-tick-lt-FIRST_TICK.true))
-
-writable : (c : Else-tick-lt-FIRST_TICK) → Writable c.args.tick
-writable c =
-    record { begun = lt_no _ _ (rw (tick_is (goal.at.Else-tick-lt-FIRST_TICK c).Start) at c.if-tick-lt-FIRST_TICK.false); valid = valid_size c.args.tick c.requires.valid }
+writable : (tick : ℤ) → is_valid tick ≡ true → first_tick ≤ℤ tick → Writable tick
+writable tick valid begun = record { begun = begun; valid = valid_size tick valid }
 
 pub latest_day-day-requires : goal.latest_day-day-requires
-latest_day-day-requires c = rw (tick_is (goal.at.latest_day-day-requires c).Start) (writable c)
+latest_day-day-requires c =
+    rw (tick_is (goal.at.latest_day-day-requires c).Start)
+    (writable c.args.tick c.requires.valid (grind (arith, ints)))
 
 day_is : (c : After-latest_day-day) → read c.latest_day-day.result ≡ latest_day c.args.tick
 day_is c = read_is _ (record { sfits = c.latest_day-day.type_inv }) ∙ (rw (tick_is (goal.at.After-latest_day-day c).Start) at c.latest_day-day.ensures)
 
 pub day_start-start-requires : goal.day_start-start-requires
-day_start-start-requires c = rw (day_is c) (latest_near c.args.leaps.now c.requires.right c.args.tick (writable c.before))
+day_start-start-requires c = rw (day_is c) (latest_near c.args.leaps.now c.requires.right c.args.tick (writable c.args.tick c.requires.valid (grind (arith, ints))))
 
 start_is : (c : After-day_start-start) → read c.day_start-start.result ≡ day_start c.args.leaps.now (latest_day c.args.tick)
 start_is c = read_is _ (record { sfits = c.day_start-start.type_inv }) ∙ (rw (day_is (goal.at.After-day_start-start c).After-latest_day-day) at c.day_start-start.ensures)
@@ -60,7 +52,7 @@ start_is c = read_is _ (record { sfits = c.day_start-start.type_inv }) ∙ (rw (
 -- the latest day has begun
 here : (c : Then-start-tick) → Within c.args.leaps.now c.args.tick (latest_day c.args.tick)
 here c =
-    latest_within c.args.leaps.now c.requires.right c.args.tick (writable c.before.before.before)
+    latest_within c.args.leaps.now c.requires.right c.args.tick (writable c.args.tick c.requires.valid (grind (arith, ints)))
     (le_yes _ _ (rw (start_is (goal.at.Then-start-tick c).After-day_start-start, tick_is (goal.at.Then-start-tick c).Start) at c.if-start-tick.true))
 
 here_fits : (c : Then-start-tick) → SFits w64 (c.args.tick -ℤ day_start c.args.leaps.now (latest_day c.args.tick))
@@ -83,7 +75,7 @@ day_size = rep _ (λ a b. simp lin (omega arith))
 
 nearby : (c : Else-start-tick) → NearListed c.args.leaps.now (latest_day c.args.tick -ℤ pos 1)
 nearby c =
-    before_near c.args.leaps.now c.requires.right c.args.tick (writable c.before.before.before) (not_begun c)
+    before_near c.args.leaps.now c.requires.right c.args.tick (writable c.args.tick c.requires.valid (grind (arith, ints))) (not_begun c)
 
 day_fits : (c : Else-start-tick) → SFits w64 (latest_day c.args.tick -ℤ pos 1)
 day_fits c =
@@ -103,7 +95,7 @@ start_is_2 c =
 
 there : (c : Else-start-tick) → Within c.args.leaps.now c.args.tick (latest_day c.args.tick -ℤ pos 1)
 there c =
-    before_within c.args.leaps.now c.requires.right c.args.tick (writable c.before.before.before) (not_begun c)
+    before_within c.args.leaps.now c.requires.right c.args.tick (writable c.args.tick c.requires.valid (grind (arith, ints))) (not_begun c)
 
 there_fits : (c : Else-start-tick) → SFits w64 (c.args.tick -ℤ day_start c.args.leaps.now (latest_day c.args.tick -ℤ pos 1))
 there_fits c = ticks_fit c.args.leaps.now c.args.tick _ c.requires.right (there c)
