@@ -1,5 +1,7 @@
 // A batch: 'A batch converts a list of ticks into a second list of equal length. All are tried
 // first; the earliest refusal is the batch's, with its index, and nothing is written.'
+#![tactic(auto)]
+
 ghost use Rattle.std.specs.Prelude.{◌≡◌, length};
 ghost use Rattle.batch.specs.Batch.{HasConverted};
 ghost use Rattle.batch.specs.Inner.{ReadyOver, FilledTaken};
