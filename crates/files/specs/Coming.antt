@@ -7,4 +7,4 @@ use Rattle.files.specs.declared.descriptors.Came.TheVariants.{Bytes, Nothing, Fa
 abbrev pub CameWithin : List ℕ → Came → Type 0
 CameWithin buffer (Bytes more) = (1 ≤ more) × (more ≤ length buffer)
 CameWithin buffer Nothing = Unit {0}
-CameWithin buffer Failed = Unit {0}
+CameWithin buffer (Failed error) = Unit {0}

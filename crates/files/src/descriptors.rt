@@ -1,63 +1,77 @@
-// Reading and writing by descriptor, in as many calls as it takes. No contract can say what is read
-// or written; these say how much at most. A proved loop has to end: where only the system says
-// when, the turns are counted down from a number that no run uses up.
+// Reading and writing in as many calls as it takes. No contract can say what is read or written;
+// these say how much at most. A proved loop has to end: where only the system says when, the turns
+// are counted up to a number that no run reaches.
 ghost use Rattle.std.specs.Prelude.{◌≤◌, length};
 ghost use Rattle.files.specs.Coming.{CameWithin};
 
-// How many bytes came, or that there are no more, or that they cannot be read.
+use std::io::{Error, ErrorKind, Read, Write};
+
+// How many bytes came, or that there are no more, or that they cannot be read, and why.
 #[derive(Clone, Copy)]
 pub enum Came {
     Bytes(usize),
     Nothing,
-    Failed,
+    Failed(Error),
+}
+
+// How much of a text was written, and why no more, where a call failed.
+#[derive(Clone, Copy)]
+pub struct Written {
+    pub done: usize,
+    pub failed: Option<Error>,
 }
 
 // Whether a call that failed is to be made again: a signal came before a byte, or the other end is
 // not ready.
-fn is_to_repeat() -> bool {
-    let error = os::errno();
-    error == libc::EINTR || error == libc::EAGAIN
+fn is_to_repeat(error: Error) -> bool {
+    let kind = error.kind();
+    kind == ErrorKind::Interrupted || kind == ErrorKind::WouldBlock
 }
 
 // Reads once. It waits until something has come.
-pub fn read_some(fd: i32, buffer: &mut [u8]) -> Came
+pub fn read_some(from: &mut impl Read, buffer: &mut [u8]) -> Came
     ensures { CameWithin buffer.new result }
 {
-    let mut turns = u64::MAX;
-    while turns > 0 {
-        let got = libc::read(fd, buffer);
-        if got > 0 {
-            return Came::Bytes(io::count(got, buffer));
+    for _turn in 0..u64::MAX {
+        match from.read(buffer) {
+            Ok(got) => {
+                if got > 0 {
+                    return Came::Bytes(got);
+                }
+                return Came::Nothing;
+            }
+            Err(error) => {
+                if !is_to_repeat(error) {
+                    return Came::Failed(error);
+                }
+            }
         }
-        if got == 0 {
-            return Came::Nothing;
-        }
-        if !is_to_repeat() {
-            return Came::Failed;
-        }
-        turns -= 1;
     }
-    Came::Failed
+    Came::Failed(Error::from(ErrorKind::Interrupted))
 }
 
 // Writes a text, and answers how much of it: all, unless a call failed.
-pub fn write_whole(fd: i32, text: &[u8]) -> usize
-    ensures { result ≤ length text.now }
+pub fn write_whole(to: &mut impl Write, text: &[u8]) -> Written
+    ensures { result.done ≤ length text.now }
 {
     let mut done = 0;
-    let mut turns = u64::MAX;
-    while turns > 0 {
+    for _turn in 0..u64::MAX {
         if done == text.len() {
-            return done;
+            return Written { done, failed: None };
         }
-        let put = libc::write(fd, &text[done..]);
-        if put < 0 {
-            if !is_to_repeat() {
-                return done;
+        match to.write(&text[done..]) {
+            Ok(put) => {
+                done += put;
+            }
+            Err(error) => {
+                if !is_to_repeat(error) {
+                    return Written {
+                        done,
+                        failed: Some(error),
+                    };
+                }
             }
         }
-        done += io::count(put, &text[done..]);
-        turns -= 1;
     }
-    done
+    Written { done, failed: None }
 }

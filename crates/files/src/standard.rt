@@ -2,17 +2,19 @@
 ghost use Rattle.std.specs.Prelude.{◌≤◌, length};
 
 use crate::descriptors::{Came, read_some, write_whole};
-use libc::{STDIN_FILENO, STDOUT_FILENO};
+use crate::telling::tell;
+use std::io;
+use std::io::ErrorKind;
 
 // Reads what has come, and answers how many bytes: none at the end of the input.
-pub fn read_input(buffer: &mut [u8]) -> usize
+pub fn read_input(rt: &(impl Input + Eprint), buffer: &mut [u8]) -> usize
     ensures { result ≤ length buffer.new }
 {
-    match read_some(STDIN_FILENO, buffer) {
+    match read_some(&mut rt.reader(), buffer) {
         Came::Bytes(more) => more,
         Came::Nothing => 0,
-        Came::Failed => {
-            os::fail(b"standard input");
+        Came::Failed(error) => {
+            tell(rt, "standard input", error);
             0
         }
     }
@@ -20,14 +22,14 @@ pub fn read_input(buffer: &mut [u8]) -> usize
 
 // Writes a text, and answers how much of it: all, unless a call failed. An output that was closed
 // is no fault to speak of.
-pub fn print(text: &[u8]) -> usize
+pub fn print(rt: &(impl Print + Eprint), text: &[u8]) -> usize
     ensures { result ≤ length text.now }
 {
-    let done = write_whole(STDOUT_FILENO, text);
-    if done < text.len() {
-        if os::errno() != libc::EPIPE {
-            os::fail(b"standard output");
+    let written = write_whole(&mut io::writer(rt), text);
+    if let Some(error) = written.failed {
+        if error.kind() != ErrorKind::BrokenPipe {
+            tell(rt, "standard output", error);
         }
     }
-    done
+    written.done
 }
