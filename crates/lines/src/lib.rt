@@ -2,6 +2,8 @@
 // is what has been read and not answered: whole lines, and at its end the start of a line that is
 // unfinished. Lines of any length are answered out of buffers of a fixed length: of an unfinished
 // line no more than 65 bytes are kept, since with any more behind them it is too long anyway.
+#![tactic(auto)]
+
 ghost use Rattle.std.specs.Prelude.{◌≡◌, take, drop};
 ghost use Rattle.opened.specs.Opened.{Lent};
 ghost use Rattle.line.specs.Lines.{line_read};

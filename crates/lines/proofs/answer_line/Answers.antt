@@ -17,8 +17,7 @@ use Rattle.lines.specs.declared.Answered.{Answered}
 use Rattle.lines.specs.Output.{answered_to, printed_for}
 use Rattle.lines.specs.Buffers.{Printed}
 use Rattle.lines.proofs.Held.{short_answered}
-use Rattle.lines.proofs.answer_line.Statement.{statement}
-use Rattle.lines.proofs.answer_line.Tie as tie
+use Rattle.lines.proofs.answer_line.Goals as goal
 
 printed : {text : List ℕ} {line : ℕ} {table : Judged} {coefficients : List ℤ} {out : List ℕ} {at : ℕ}
     {out' : List ℕ} {next : ℕ} (answered : Answered)
@@ -32,21 +31,8 @@ printed {out = out} {at} {out'} {next} answered is put few = record {
   short = omega (arith, put.after);
 }
 
-answer-to-requires : tie.Need-answer-to-requires
-answer-to-requires c κs = search rules
-
-write-line-requires : tie.Need-write-line-requires
-write-line-requires c κs = search rules
-
-same_length : tie.Need-same-length
-same_length c = search rules
-
-returns : tie.Need-returns
+pub returns : goal.returns
 returns c =
-    let line = c.before.before in
-    let told = line.before.before.before.answer-to in
-    let to_is = to_z-of_z w64 told.result.to (record { sfits = line.before.struct_told.given.0.1 }) in
-    printed told.result told.ensures (rw to_is at line.write_line.ensures) (short_answered told.result _ told.type-inv)
-
-pub answer_line_spec : {M : Type 1} → statement M
-answer_line_spec = tie.close (tie.spec answer-to-requires write-line-requires same_length returns)
+    let told = c.answer_to-answered in
+    let to_is = to_z-of_z w64 told.result.to (record { sfits = c.struct_told-1.given.0.1 }) in
+    printed told.result told.ensures (rw to_is at c.write_line.ensures) (short_answered told.result _ told.type_inv)

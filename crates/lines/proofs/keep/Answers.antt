@@ -1,6 +1,3 @@
--- `lines::keep` meets its contract. The invariant: as many bytes as are counted stand at the front;
--- those that are still to be moved are as they were, since none is moved to a place behind its own.
--- Assumes nothing.
 use borrow.Author.Rules.{rules}
 use mathlib.Core.Path.{◌≡◌, sym, ◌∙◌, ap}
 use mathlib.Core.List.{List, [], ◌∷◌, ◌++◌}
@@ -13,17 +10,8 @@ use Rattle.printing.specs.Buffers.{with_text, TextPut}
 use Rattle.printing.proofs.Filling.{length_kept, then_byte}
 use Rattle.lines.specs.Buffers.{Moving}
 use Rattle.lines.proofs.Parts.{put_nothing}
-use Rattle.lines.proofs.keep.Statement.{statement}
-use Rattle.lines.proofs.keep.Tie as tie
-
--- the bytes that may be moved
-abbrev part : List ℕ → ℕ → ℕ → List ℕ
-part text start end = drop start (take end text)
-
-record Moved (text₀ : List ℕ) (start end : ℕ) (text : List ℕ) (kept : ℕ) : Type 0 where
-  few : kept ≤ 65
-  inside : start + kept ≤ end
-  put : TextPut text₀ 0 (take kept (part text₀ start end)) text kept
+use Rattle.lines.proofs.keep.Invariants.{Moved, part}
+use Rattle.lines.proofs.keep.Goals as goal
 
 module _ {text₀ : List ℕ} {start end : ℕ} (moving : Moving text₀ start end) where
   long : length (part text₀ start end) ≡ end - start
@@ -78,65 +66,35 @@ module _ {text₀ : List ℕ} {start end : ℕ} (moving : Moving text₀ start e
     full : 65 ≤ kept → TextPut text₀ 0 (take 65 (part text₀ start end)) text kept
     full h = let e : 65 ≡ kept = omega (arith, moved.few) in rw (ap (λ (n : ℕ). take n (part text₀ start end)) e) moved.put
 
-abbrev invariant-loop : tie.invariant-loop
-invariant-loop text₀ start end kept₀ text kept = Moved text₀ start end text kept
+pub loop-kept-init : goal.loop-kept-init
+loop-kept-init c = at_first c.requires
 
-abbrev decreases-loop : tie.decreases-loop
-decreases-loop text₀ start end kept₀ text kept = 65 - kept
+pub overflow_add-start : goal.overflow_add-start
+overflow_add-start c = omega (arith, c.loop-kept.invariant.inside, c.ranges.end)
 
-loop-holds : tie.Need-loop-init invariant-loop decreases-loop
-loop-holds c = at_first c.requires
+pub shape_of-text-then-start-kept : goal.shape_of-text-then-start-kept
+shape_of-text-then-start-kept c = same c.requires c.loop-kept.invariant
 
-add-if1 : tie.Need-overflow-add-if1 invariant-loop decreases-loop
-add-if1 c = omega (arith, c.before.loop.invariant.inside, c.before.before.ranges.end)
+pub returns-then-start-kept : goal.returns-then-start-kept
+returns-then-start-kept c = ended c.requires c.loop-kept.invariant c.if-start-kept.true
 
-same_length : tie.Need-same-length invariant-loop decreases-loop
-same_length c = same c.before.before.before.requires c.before.before.loop.invariant
+pub overflow_add-text : goal.overflow_add-text
+overflow_add-text c = omega (arith, c.loop-kept.invariant.inside, c.ranges.end)
 
-returns : tie.Need-returns invariant-loop decreases-loop
-returns c = ended c.before.before.before.requires c.before.before.loop.invariant c.if1.true
+pub bounds-text-start : goal.bounds-text-start
+bounds-text-start c = omega (arith, same c.requires c.loop-kept.invariant, c.requires.inside, c.if-start-kept.false)
 
-add-text : tie.Need-overflow-add-text invariant-loop decreases-loop
-add-text c = omega (arith, c.before.before.loop.invariant.inside, c.before.before.before.ranges.end)
+pub bounds-text-kept : goal.bounds-text-kept
+bounds-text-kept c = let h = bounds-text-start c in omega arith
 
-slice-read-text : tie.Need-slice-read-text invariant-loop decreases-loop
-slice-read-text c =
-    let s = c.before.before.before.before in
-    omega (arith, same s.requires c.before.before.before.loop.invariant, s.requires.inside, c.before.if1.false)
+pub loop-kept-smaller : goal.loop-kept-smaller
+loop-kept-smaller c = omega arith
 
-slice-write-text : tie.Need-slice-write-text invariant-loop decreases-loop
-slice-write-text c = let h = slice-read-text c in omega arith
+pub loop-kept-preserved : goal.loop-kept-preserved
+loop-kept-preserved c = next c.requires c.loop-kept.invariant c.if-start-kept.false c.loop-kept-test.true
 
-add_kept : tie.Need-overflow-add-kept invariant-loop decreases-loop
-add_kept c = search rules
+pub shape_of-text : goal.shape_of-text
+shape_of-text c = same c.requires c.loop-kept.invariant
 
-loop-less : tie.Need-loop-smaller invariant-loop decreases-loop
-loop-less c = omega arith
-
-loop-again : tie.Need-loop-preserved invariant-loop decreases-loop
-loop-again c = next c.before.before.before.before.requires c.before.before.before.loop.invariant c.before.if1.false c.before.before.loop-test.true
-
-same-length-2 : tie.Need-same-length-2 invariant-loop decreases-loop
-same-length-2 c = same c.before.before.requires c.before.loop.invariant
-
-returns-2 : tie.Need-returns-2 invariant-loop decreases-loop
-returns-2 c = full c.before.before.requires c.before.loop.invariant c.loop-test.false
-
-pub keep_spec : {M : Type 1} → statement M
-keep_spec =
-    tie.close
-    (tie.spec
-    invariant-loop
-    decreases-loop
-    loop-holds
-    add-if1
-    same_length
-    returns
-    add-text
-    slice-read-text
-    slice-write-text
-    add_kept
-    loop-less
-    loop-again
-    same-length-2
-    returns-2)
+pub returns : goal.returns
+returns c = full c.requires c.loop-kept.invariant c.loop-kept-test.false

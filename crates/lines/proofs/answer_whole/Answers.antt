@@ -1,5 +1,3 @@
--- `lines::answer_whole` meets its contract. The invariant: the whole lines of the bytes passed are
--- answered and counted. Assumes nothing.
 use borrow.Author.Rules.{rules}
 use borrow.Author.Tests.{ne_eqb}
 use mathlib.Core.Path.{◌≡◌, refl, sym, ◌∙◌, ap}
@@ -20,16 +18,9 @@ use Rattle.lines.specs.Buffers.{LinesAnswered, Printed}
 use Rattle.lines.proofs.Splits.{whole_short, after_whole, whole_grown, whole_ended}
 use Rattle.lines.proofs.Parts.{put_nothing}
 use Rattle.lines.proofs.Pieces.{output_newline, output_nothing, after_newline}
-use Rattle.lines.proofs.answer_whole.Statement.{statement}
-use Rattle.lines.proofs.answer_whole.Tie as tie
-
-record Passed (text : List ℕ) (first : ℕ) (table : Judged) (coefficients : List ℤ) (out₀ : List ℕ) (out : List ℕ)
-    (start end line i : ℕ) : Type 0 where
-  inside : i ≤ length text
-  begins : start ≡ length (whole_lines (take i text))
-  put : TextPut out₀ 0 (output_from first table coefficients (whole_lines (take i text))) out end
-  next : line ≡ line_after first (lines_of (whole_lines (take i text)))
-  few : end ≤ longest * start
+use Rattle.lines.proofs.answer_whole.Invariants.{Passed}
+use Rattle.lines.proofs.answer_whole.Goals as goal
+use Rattle.lines.proofs.answer_whole.Goals.{then-text-i-eq10, else-text-i-eq10}
 
 at_first : (text : List ℕ) (first : ℕ) (table : Judged) (coefficients : List ℤ) (out : List ℕ)
     → Passed text first table coefficients out out 0 0 first 0
@@ -115,79 +106,51 @@ module _ {text : List ℕ} {first : ℕ} {table : Judged} {coefficients : List �
           few = omega (arith, before, passed.few, printed.short);
         }
 
-abbrev invariant-loop : tie.invariant-loop
-invariant-loop text first judged coefficients out₀ start₀ end₀ line₀ i₀ out start end line i =
-    Passed text first judged coefficients out₀ out start end line i
+pub loop-i-init : goal.loop-i-init
+loop-i-init c = at_first _ _ _ _ _
 
-abbrev decreases-loop : tie.decreases-loop
-decreases-loop text first judged coefficients out₀ start₀ end₀ line₀ i₀ out start end line i = length text - i
+pub bounds-text-i : goal.bounds-text-i
+bounds-text-i c = omega arith
 
-loop-holds : tie.Need-loop-init invariant-loop decreases-loop
-loop-holds c = at_first _ _ _ _ _
+pub slice_bounds-answer_line-count : goal.slice_bounds-answer_line-count
+slice_bounds-answer_line-count c = before c.loop-i.invariant
 
-shared-slice-read-if1 : tie.Need-shared-slice-read-if1 invariant-loop decreases-loop
-shared-slice-read-if1 c = omega arith
+pub slice_bounds-answer_line-start : goal.slice_bounds-answer_line-start
+slice_bounds-answer_line-start c = before c.loop-i.invariant
 
-sub-answer-line : tie.Need-overflow-sub-answer-line invariant-loop decreases-loop
-sub-answer-line c = before c.before.before.before.loop.invariant
+pub slice_bounds-answer_line-end : goal.slice_bounds-answer_line-end
+slice_bounds-answer_line-end c = c.loop-i.invariant.inside
 
-part-answer-line-start : tie.Need-slice-bounds-answer-line-start invariant-loop decreases-loop
-part-answer-line-start c = before c.before.before.before.loop.invariant
-
-part-answer-line-end : tie.Need-slice-bounds-answer-line-end invariant-loop decreases-loop
-part-answer-line-end c = c.before.before.before.loop.invariant.inside
-
-answer-line-requires : tie.Need-answer-line-requires invariant-loop decreases-loop
-answer-line-requires c κs =
-    let pre = c.before.before.before.before.before.before.before.before.requires in
+pub answer_line-end-requires : goal.answer_line-end-requires
+answer_line-end-requires c =
+    let pre = c.requires in
     record {
       lent = pre.lent;
-      room = ready c.before.before.before.before.before.loop.invariant pre.room c.before.before.before.before.loop-test.true;
+      room = ready c.loop-i.invariant pre.room c.loop-i-test.true;
     }
 
-next-line-requires : tie.Need-next-line-requires invariant-loop decreases-loop
-next-line-requires c κs = tt
+pub next_line-line-requires : goal.next_line-line-requires
+next_line-line-requires c = tt
 
-add_start : tie.Need-overflow-add-start invariant-loop decreases-loop
-add_start c = search rules
+pub overflow_add-i : goal.overflow_add-i
+overflow_add-i c = omega arith
 
-add-i : tie.Need-overflow-add-i invariant-loop decreases-loop
-add-i c = omega arith
+pub loop-i-smaller : goal.loop-i-smaller
+loop-i-smaller c = omega arith
 
-loop-less : tie.Need-loop-smaller invariant-loop decreases-loop
-loop-less c = omega arith
+pub loop-i-preserved : goal.loop-i-preserved
+loop-i-preserved c =
+    let p = c.loop-i.invariant in
+    let room = c.requires.room in
+    let more = c.loop-i-test.true in
+    elim c.if-text-i-eq10.branch [
+      then-text-i-eq10 w ↦ rw (w.out-is, w.start-is, w.end-is, w.line-is)
+          (ended p room more w.if-text-i-eq10.true w.answer_line-end.ensures w.next_line-line.ensures)
+    | else-text-i-eq10 w ↦ rw (w.out-is, w.start-is, w.end-is, w.line-is) (on p room more w.if-text-i-eq10.false)
+    ]
 
-loop-again : tie.Need-loop-preserved invariant-loop decreases-loop
-loop-again c =
-    let p = c.before.before.before.loop.invariant in
-    let room = c.before.before.before.before.before.before.requires.room in
-    let more = c.before.before.loop-test.true in
-    ⊎_elim (λ w. rw (w.7, w.8, w.9, w.10) (ended p room more w.0.taken w.3.ensures w.6.ensures))
-    (λ w. rw (w.1, w.2, w.3, w.4) (on p room more w.0.left))
-    c.if1.branch
+pub shape_of-out : goal.shape_of-out
+shape_of-out c = same c.loop-i.invariant c.requires.room
 
-same_length : tie.Need-same-length invariant-loop decreases-loop
-same_length c = same c.before.loop.invariant c.before.before.before.before.requires.room
-
-returns : tie.Need-returns invariant-loop decreases-loop
-returns c = at_last c.before.loop.invariant c.loop-test.false
-
-pub answer_whole_spec : {M : Type 1} → statement M
-answer_whole_spec =
-    tie.close
-    (tie.spec
-    invariant-loop
-    decreases-loop
-    loop-holds
-    shared-slice-read-if1
-    sub-answer-line
-    part-answer-line-start
-    part-answer-line-end
-    answer-line-requires
-    next-line-requires
-    add_start
-    add-i
-    loop-less
-    loop-again
-    same_length
-    returns)
+pub returns : goal.returns
+returns c = at_last c.loop-i.invariant c.loop-i-test.false
