@@ -1,6 +1,8 @@
 // What changed between two tables: each granule that differs, in rising order, with the largest
 // coefficient difference and the sum of the absolute differences. Both images are read where they
 // lie.
+#![tactic(auto)]
+
 mod differing;
 mod listing;
 
