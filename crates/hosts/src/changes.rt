@@ -37,12 +37,7 @@ fn changes_answer(compared: Compared) -> ChangesAnswer
 // of the absolute differences in units of 1/65536 tick, at the front of the list; the rest of it
 // stays. Refuses as judging does, the first table and then the second; 20 where S, H or G differ; 8
 // where the list is too short. A refusal writes nothing.
-#[unsafe(no_mangle)]
-pub extern "C" fn colliedash_compare_tables(
-    first: &[u8],
-    second: &[u8],
-    entries: &mut [i64],
-) -> ChangesAnswer
+pub fn colliedash_compare_tables(first: &[u8], second: &[u8], entries: &mut [i64]) -> ChangesAnswer
     ensures { TablesCompared first.now second.now entries.old
         entries.new result }
 {

@@ -34,30 +34,21 @@ fn batch_answer(batched: Batched) -> Answer
 
 // Ticks past Julian date 2443144.5003725 in the scale of the first code, to ticks in that of the
 // second.
-#[unsafe(no_mangle)]
-pub extern "C" fn colliedash_convert_ticks(from: u32, to: u32, tick: i64, table: &[u8]) -> Answer
+pub fn colliedash_convert_ticks(from: u32, to: u32, tick: i64, table: &[u8]) -> Answer
     ensures { result ≡ converted_answer (convert_of from to (Ticks tick) [] table.now) }
 {
     converted_answer(convert(from, to, Reading::Ticks(tick), &[], table))
 }
 
 // The same of a two-part Julian date, in days.
-#[unsafe(no_mangle)]
-pub extern "C" fn colliedash_convert_date(
-    from: u32,
-    to: u32,
-    first: f64,
-    second: f64,
-    table: &[u8],
-) -> Answer
+pub fn colliedash_convert_date(from: u32, to: u32, first: f64, second: f64, table: &[u8]) -> Answer
     ensures { result ≡ converted_answer (convert_of from to (TwoPart first second) [] table.now) }
 {
     converted_answer(convert(from, to, Reading::TwoPart(first, second), &[], table))
 }
 
 // The same of seconds past J2000.
-#[unsafe(no_mangle)]
-pub extern "C" fn colliedash_convert_j2000(from: u32, to: u32, seconds: f64, table: &[u8]) -> Answer
+pub fn colliedash_convert_j2000(from: u32, to: u32, seconds: f64, table: &[u8]) -> Answer
     ensures { result ≡ converted_answer (convert_of from to (SinceJ2000 seconds) [] table.now) }
 {
     converted_answer(convert(from, to, Reading::SinceJ2000(seconds), &[], table))
@@ -65,8 +56,7 @@ pub extern "C" fn colliedash_convert_j2000(from: u32, to: u32, seconds: f64, tab
 
 // A list of ticks into a second list of equal length: all of them, or a refusal that writes
 // nothing.
-#[unsafe(no_mangle)]
-pub extern "C" fn colliedash_batch(
+pub fn colliedash_batch(
     from: u32,
     to: u32,
     ticks: &[i64],

@@ -35,8 +35,7 @@ fn date_answer(written: Written) -> DateAnswer
 
 // A tick as a date: the last Julian date ending in .5 not after it, and the part of a day since
 // then; or refusal 4.
-#[unsafe(no_mangle)]
-pub extern "C" fn colliedash_write_date(tick: i64) -> DateAnswer
+pub fn colliedash_write_date(tick: i64) -> DateAnswer
     ensures { result ≡ date_answer (written_of tick) }
 {
     date_answer(write_date(tick))

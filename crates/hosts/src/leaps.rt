@@ -46,8 +46,7 @@ fn utc_answer(answer: written::UtcAnswer) -> UtcAnswer
 
 // A UTC reading, a Modified Julian Day and ticks within the day, to ticks in the scale of the
 // second code. The first code is 7.
-#[unsafe(no_mangle)]
-pub extern "C" fn colliedash_convert_utc(
+pub fn colliedash_convert_utc(
     from: u32,
     to: u32,
     day: i64,
@@ -63,14 +62,7 @@ pub extern "C" fn colliedash_convert_utc(
 }
 
 // Ticks in the scale of the first code, written as UTC. The second code is 7.
-#[unsafe(no_mangle)]
-pub extern "C" fn colliedash_write_utc(
-    from: u32,
-    to: u32,
-    tick: i64,
-    leaps: &[i64],
-    table: &[u8],
-) -> UtcAnswer
+pub fn colliedash_write_utc(from: u32, to: u32, tick: i64, leaps: &[i64], table: &[u8]) -> UtcAnswer
     ensures { result
         ≡ utc_answer
         (write_utc_of from to (Ticks tick) leaps.now table.now) }

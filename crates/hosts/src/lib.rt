@@ -1,7 +1,9 @@
 // The interface for other hosts: functions on numbers and slices that C and Rust link, thin over
 // the layers below. An answer is a struct by value, so that no answer slot is lent, and there is no
 // `requires`. `include/colliedash.h` declares the same.
-mod answers;
+#![tactic(auto)]
+
+pub mod answers;
 pub mod changes;
 pub mod conversions;
 pub mod date;

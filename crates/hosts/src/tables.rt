@@ -11,8 +11,7 @@ use blocks::writing::write;
 use linear::steps::Tt;
 
 // The table's numbers, in ticks, or the refusal of 10 to 16 that the bytes get.
-#[unsafe(no_mangle)]
-pub extern "C" fn colliedash_judge(table: &[u8]) -> TableAnswer
+pub fn colliedash_judge(table: &[u8]) -> TableAnswer
     ensures { result ≡ table_answer (judged table.now) }
 {
     table_answer(judge(table))
@@ -20,8 +19,7 @@ pub extern "C" fn colliedash_judge(table: &[u8]) -> TableAnswer
 
 // The same, and the G·(n+1) coefficients, granule by granule, in units of 1/65536 tick. A refusal
 // writes nothing.
-#[unsafe(no_mangle)]
-pub extern "C" fn colliedash_read_table(table: &[u8], coefficients: &mut [i64]) -> TableAnswer
+pub fn colliedash_read_table(table: &[u8], coefficients: &mut [i64]) -> TableAnswer
     ensures { TableRead table.now coefficients.old coefficients.new result }
 {
     table_answer(read(table, coefficients))
@@ -29,8 +27,7 @@ pub extern "C" fn colliedash_read_table(table: &[u8], coefficients: &mut [i64]) 
 
 // Writes a table as blocks into a buffer of exactly the size needed, or refuses 8 or 13 to 16 and
 // writes nothing.
-#[unsafe(no_mangle)]
-pub extern "C" fn colliedash_write_table(
+pub fn colliedash_write_table(
     start: i64,
     length: i64,
     count: u32,

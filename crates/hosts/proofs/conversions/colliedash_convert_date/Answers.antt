@@ -1,0 +1,8 @@
+-- `hosts::conversions::colliedash_convert_date` meets its contract. Assumes nothing.
+use borrow.Author.Rules.{rules}
+use mathlib.Core.Path.{◌∙◌, ap}
+use Rattle.hosts.specs.Conversions.{converted_answer}
+use Rattle.hosts.proofs.conversions.colliedash_convert_date.Goals as goal
+
+pub returns : goal.returns
+returns c = c.converted_answer.ensures ∙ ap converted_answer c.convert.ensures

@@ -1,0 +1,16 @@
+-- `hosts::leaps::utc_answer` meets its contract. Assumes nothing.
+use borrow.Author.Rules.{rules}
+use mir.Syntax.{w64}
+use mir.ValLaws.{to_z-of_z}
+use Rattle.written.specs.Answers.{utc_answer_number, utc_answer_place, utc_answer_day, utc_answer_ticks, utc_answer_steps}
+use Rattle.hosts.proofs.leaps.utc_answer.Goals as goal
+
+pub returns-in-Written : goal.returns-in-Written
+unfolding utc_answer_number utc_answer_place utc_answer_day utc_answer_ticks utc_answer_steps
+returns-in-Written c =
+    let told = c.struct_told-1.given in
+    rw (c.in-Written.is, to_z-of_z w64 _ (record { sfits = told.0.1 }), to_z-of_z w64 _ (record { sfits = told.1.0.1 }))
+
+pub returns-in-Refused : goal.returns-in-Refused
+unfolding utc_answer_number utc_answer_place utc_answer_day utc_answer_ticks utc_answer_steps
+returns-in-Refused c = rw c.in-Refused.is
