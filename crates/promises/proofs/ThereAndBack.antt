@@ -1,6 +1,6 @@
 -- Demand 3: 'there and back over one step lands within one tick', for conversions over any step:
 -- the law of each is `step_back` of `Steps`. Assumes nothing.
-use mathlib.Core.Path.{◌≡◌, refl, sym, ◌∙◌, ap}
+use mathlib.Core.Path.{◌≡◌, refl, sym, subst, ◌∙◌, ap}
 use mathlib.Core.Bool.{Bool, true, cond, not}
 use mathlib.Core.List.{List, [], ◌∷◌, ◌++◌}
 use Prim.Native.Nat.{ℕ, ◌≤◌}
@@ -129,6 +129,7 @@ module _ (from to home : ℕ) (reading : Reading) (leaps : List ℤ) (bytes : Li
       let crossed = (pass_both (crossed_tests from to bytes) (walk_tests from to reading leaps bytes) codes.1.1.1.1).0 in
       let ends = is_code P.Reading to in
       let first = only_passes 1 0 ends (passes_only 1 1 ends codes.1.0) in
+      let way : path (named to) (named home) ≡ opposite between.step ∷ [] = rw same between.back in
       (conversion_exactly to home (Ticks (answer_tick there)) [] bytes).passing (
         first,
         (
@@ -139,7 +140,8 @@ module _ (from to home : ℕ) (reading : Reading) (leaps : List ℤ) (bytes : Li
               only_passes 7 0 true refl,
               pass_join (crossed_tests to home bytes) _ (rw (same, crosses_back (named from) (named to)) crossed) (
                 only_passes 4 0 (is_valid (answer_tick there)) valid,
-                rw (same, between.back, r.1) (only_passes 6 0 true refl, (only_passes 4 1 true refl, tt)),
+                subst (λ (p : List Step). AllPass (step_tests kept cs p 0 (answer_tick there))) (sym way)
+                    (rw r.1 (only_passes 6 0 true refl, (only_passes 4 1 true refl, tt))),
               ),
             ),
           ),
