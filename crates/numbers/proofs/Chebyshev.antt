@@ -2,7 +2,7 @@
 -- equation, E_k² + (H² − p²)·W_(k−1)² = H^(2k), the whole-number form of cos² + sin² = 1. Then E
 -- over another denominator, and at the two ends. Assumes nothing.
 use mathlib.Core.Path.{◌≡◌, refl, ◌∙◌, ap, subst, sym}
-use Prim.Native.Nat.{ℕ, zero, suc, ◌+◌, ◌*◌, ◌^◌, ◌≤◌, ◌<◌}
+use Prim.Native.Nat.{ℕ, zero, suc, ◌*◌, ◌^◌, ◌≤◌, ◌<◌}
 use native.Mathlib.Omega.{arith}
 use lib.IntN.{ℤ, pos, ◌+ℤ◌, ◌-ℤ◌, ◌*ℤ◌, nat_abs, neg_ℤ}
 use lib.Signed.{◌≤ℤ◌, ≤ℤ_refl}

@@ -10,7 +10,7 @@ use mathlib.Core.Path.{◌≡◌, refl, sym, ◌∙◌, ap, ap₂}
 use mathlib.Core.List.{List, [], ◌∷◌}
 use Prim.Native.Nat.{ℕ, zero, suc, compare, Ordering}
 use lib.Dec.{T, compare_is_eq, eqb→eq}
-use lib.IntN.{ℤ, pos, negsuc, ◌+ℤ◌, ◌-ℤ◌, ◌*ℤ◌, neg_ℤ, +ℤ_assoc, +ℤ_idl, -ℤ-+ℤ_cancel, *ℤ-zero, zero-*ℤ, neg_ℤ-+ℤ}
+use lib.IntN.{ℤ, pos, negsuc, ◌+ℤ◌, ◌*ℤ◌, neg_ℤ, +ℤ_assoc, +ℤ_idl, -ℤ-+ℤ_cancel, *ℤ-zero, zero-*ℤ, neg_ℤ-+ℤ}
 use native.Mathlib.Omega.{arith}
 use Rattle.numbers.proofs.Differences.{rep, lin}
 use Rattle.numbers.proofs.Ring.{*-assoc, *-left-comm, *-dist, dist-*, neg-*, one-*, +-left-comm}

@@ -38,6 +38,7 @@ pub enum Stepped {
 }
 
 // The epoch of a scale that a step came to, where its tick is valid.
+#[tactic(auto, unfolding(crate::specs::Answers::kept_in))]
 pub fn keep(scale: Scale, tick: i64) -> Stepped
     ensures { result ≡ kept_in scale tick }
 {

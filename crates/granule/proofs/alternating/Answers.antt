@@ -11,16 +11,6 @@ use Rattle.numbers.proofs.Machine.{read}
 use Rattle.granule.specs.Tests.{alternating_sum}
 use Rattle.granule.proofs.Sums.{alternating_joins, sum_begins, sum_turns}
 use Rattle.granule.proofs.alternating.Goals as goal
-use Rattle.granule.proofs.alternating.Goals.{After-c-1}
-
--- the next sum, as the code makes it
-turned : (c : After-c-1)
-    → let cs = c.args.coefficients.now in
-    let next = read (read (get_or cs (c.loop-k.k - 1) (pos 0))) -ℤ read c.loop-k.sum.0 in
-    SFits w64 next × (read next ≡ alternating_sum (drop (c.loop-k.k - 1) cs))
-turned c =
-    sum_turns alternating_sum ◌-ℤ◌ alternating_joins c.args.coefficients.now c.loop-k.k c.loop-k.sum.0 c.requires
-    c.loop-k-test.true c.loop-k.invariant.0 (record { sfits = c.c-1.given }) c.loop-k.invariant.1
 
 pub loop-k-init : goal.loop-k-init
 loop-k-init c = (le_refl _, sum_begins alternating_sum ◌-ℤ◌ alternating_joins c.args.coefficients.now)
@@ -29,10 +19,16 @@ pub offset_bounds-coefficients-k : goal.offset_bounds-coefficients-k
 offset_bounds-coefficients-k c = omega arith
 
 pub overflow_sub-sum : goal.overflow_sub-sum
-overflow_sub-sum c = (turned (goal.at.overflow_sub-sum c).After-c-1).0
+overflow_sub-sum c =
+    (sum_turns alternating_sum ◌-ℤ◌ alternating_joins c.args.coefficients.now c.loop-k.k c.loop-k.sum.0 c.requires
+        c.loop-k-test.true c.loop-k.invariant.0 (search rules) c.loop-k.invariant.1).0
 
 pub loop-k-preserved : goal.loop-k-preserved
-loop-k-preserved c = (omega arith, (turned (goal.at.loop-k-preserved c).After-c-1).1)
+loop-k-preserved c = (
+  omega arith,
+  (sum_turns alternating_sum ◌-ℤ◌ alternating_joins c.args.coefficients.now c.loop-k.k c.loop-k.sum.0 c.requires
+        c.loop-k-test.true c.loop-k.invariant.0 (search rules) c.loop-k.invariant.1).1,
+)
 
 pub returns : goal.returns
 returns c = let done : c.loop-k.k ≡ 0 = omega arith in rw done at c.loop-k.invariant.1

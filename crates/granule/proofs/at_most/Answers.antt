@@ -1,5 +1,6 @@
 -- `granule::at_most` meets its contract: x − 1024 is compared where it fits, and where it does not,
 -- no y is so far below x. Assumes nothing.
+use borrow.Author.Rules.{rules}
 use mathlib.Core.Path.{◌≡◌, sym}
 use Prim.Native.Nat.{◌^◌, ◌≤◌}
 use native.Mathlib.Omega.{arith}
@@ -10,7 +11,7 @@ use mir.Val.{SFits}
 use Rattle.numbers.proofs.Differences.{rep, rep₂, lin}
 use Rattle.numbers.proofs.Machine.{lt_yes, lt_no, yes_le, read, read_is, fits_size, fits_under, fits_range, same_le}
 use Rattle.granule.proofs.at_most.Goals as goal
-use Rattle.granule.proofs.at_most.Goals.{After-struct_told-1, Else-x-ltminus9223372036854774784}
+use Rattle.granule.proofs.at_most.Goals.{Else-x-ltminus9223372036854774784}
 
 near : (x y : ℤ) → x <ℤ negsuc 9223372036854774783 → nat_abs y ≤ 2 ^ 63 → (x -ℤ y) ≤ℤ pos 1024
 near = rep₂ _ (λ a b c d. simp lin (omega arith))
@@ -30,25 +31,21 @@ over = rep₂ _ (λ a b c d. simp lin (omega arith))
 back : (x y : ℤ) → (x -ℤ y) ≤ℤ pos 1024 → (x -ℤ pos 1024) ≤ℤ y
 back = rep₂ _ (λ a b c d. simp lin (omega arith))
 
--- as the code reads them
-x_is : (c : After-struct_told-1) → let x = c.args.x.0 in read x ≡ x
-x_is c = read_is _ (record { sfits = c.type_inv.x.0.1 })
-
 pub returns-then-x-ltminus9223372036854774784 : goal.returns-then-x-ltminus9223372036854774784
 returns-then-x-ltminus9223372036854774784 c =
     sym (yes_le (c.args.x.0 -ℤ c.args.y.0) (pos 1024)
-    (near c.args.x.0 c.args.y.0 (lt_yes _ _ (rw (x_is (goal.at.returns-then-x-ltminus9223372036854774784 c).After-struct_told-1) at c.if-x-ltminus9223372036854774784.true))
-    (fits_size c.args.y.0 (record { sfits = c.well_formed.1.0.1.1.0.1 }))))
+    (near c.args.x.0 c.args.y.0 (lt_yes _ _ (rw (read_is c.args.x.0 (search rules)) at c.if-x-ltminus9223372036854774784.true))
+    (fits_size c.args.y.0 (search rules))))
 
 fitting : (c : Else-x-ltminus9223372036854774784) → SFits w64 (c.args.x.0 -ℤ pos 1024)
 fitting c =
-    less c.args.x.0 (lt_no _ _ (rw (x_is (goal.at.Else-x-ltminus9223372036854774784 c).After-struct_told-1) at c.if-x-ltminus9223372036854774784.false)) (record { sfits = c.type_inv.x.0.1 })
+    less c.args.x.0 (lt_no _ _ (rw (read_is c.args.x.0 (search rules)) at c.if-x-ltminus9223372036854774784.false)) (record { sfits = c.type_inv.x.0.1 })
 
 pub overflow_sub-result : goal.overflow_sub-result
-overflow_sub-result c = rw (x_is (goal.at.overflow_sub-result c).After-struct_told-1) (fitting (goal.at.overflow_sub-result c).Else-x-ltminus9223372036854774784)
+overflow_sub-result c = rw (read_is c.args.x.0 (search rules)) (fitting (goal.at.overflow_sub-result c).Else-x-ltminus9223372036854774784)
 
 pub returns : goal.returns
 returns c =
-    let y_is = read_is c.args.y.0 (record { sfits = c.struct_told-3-1.given.0.1 }) in
-    rw (x_is (goal.at.returns c).After-struct_told-1, read_is _ (fitting (goal.at.returns c).Else-x-ltminus9223372036854774784), y_is)
+    let y_is = read_is c.args.y.0 (search rules) in
+    rw (read_is c.args.x.0 (search rules), read_is _ (fitting (goal.at.returns c).Else-x-ltminus9223372036854774784), y_is)
     (same_le (c.args.x.0 -ℤ pos 1024) c.args.y.0 (c.args.x.0 -ℤ c.args.y.0) (pos 1024) (over c.args.x.0 c.args.y.0) (back c.args.x.0 c.args.y.0))

@@ -1,5 +1,6 @@
 -- `granule::delay` meets its contract: v / 65536 rounded is half of v / 32768, rounded down, and
 -- one. Assumes nothing.
+use borrow.Author.Rules.{rules}
 use mathlib.Core.Path.{◌≡◌, sym, ◌∙◌}
 use Prim.Native.Nat.{◌+◌, ◌^◌, ◌≤◌}
 use native.Mathlib.Nat.{le_refl}
@@ -15,7 +16,6 @@ use Rattle.numbers.proofs.Machine.{fits, shr_floor, read, read_is, fits_size}
 use Rattle.numbers.proofs.Rounding.{floor_small, nearest_twice}
 use Rattle.granule.specs.Rule.{delay_of}
 use Rattle.granule.proofs.delay.Goals as goal
-use Rattle.granule.proofs.delay.Goals.{After-struct_told-1}
 
 -- the two shifts, in the words of the code
 abbrev raised_of : ℤ → ℤ
@@ -40,11 +40,8 @@ safe v f =
           (read_is (floor_div (low +ℤ pos 1) 2) (fits (floor_div (low +ℤ pos 1) 2) (omega arith)) ∙ sym (nearest_twice v 32768 (lit< tt)));
     }
 
-all : (c : After-struct_told-1) → Safe c.args.v.0
-all c = safe _ (record { sfits = c.struct_told-1.given.0.1 })
-
 pub overflow_add-result : goal.overflow_add-result
-overflow_add-result c = (all c).raised
+overflow_add-result c = (safe c.args.v.0 (search rules)).raised
 
 pub returns : goal.returns
-returns c = (all c).is
+returns c = (safe c.args.v.0 (search rules)).is

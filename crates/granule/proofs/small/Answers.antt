@@ -37,7 +37,7 @@ tested : (c : After-within)
     → c.within.result
     ≡ is_within
     (get_or c.args.coefficients.now c.loop-k.k (pos 0))
-tested c = rw (read_is _ (record { sfits = c.c-1.given })) at c.within.ensures
+tested c = rw (read_is (get_or c.args.coefficients.now c.loop-k.k (pos 0)) (search rules)) at c.within.ensures
 
 pub loop-k-init : goal.loop-k-init
 loop-k-init c = (zero-le, refl)

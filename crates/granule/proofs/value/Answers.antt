@@ -72,7 +72,7 @@ upper : (c : After-b_of-b2)
     → c.b_of-b2.result.0 ≡ b_of (goal.at.After-b_of-b2 c).At-loop-k c.loop-k.k
 upper c =
     let l = c.loop-k.invariant in
-    (rw (made c.before.before.before.before.before, read_is _ (record { sfits = c.c-1.given }), l.1, l.2) at c.b_of-b2.ensures)
+    (rw (made c.before.before.before.before.before, read_is (get_or c.args.coefficients.now c.loop-k.k (pos 0)) (search rules), l.1, l.2) at c.b_of-b2.ensures)
     ∙ sym (b_turn (u_of_lem (goal.at.After-b_of-b2 c).At-loop-k) (coefficients_of (goal.at.After-b_of-b2 c).At-loop-k) c.loop-k.k (omega (arith, l.0)))
 
 lower : (c : After-b_of-b1)
@@ -82,7 +82,7 @@ lower c =
     let k = c.loop-k.k in
     let l = c.loop-k.invariant in
     let more = c.loop-k-test.true in
-    (rw (made c.before.before.before.before.before.before.before, read_is _ (record { sfits = c.next-1.given }), l.1, upper c.before.before) at c.b_of-b1.ensures)
+    (rw (made c.before.before.before.before.before.before.before, read_is (get_or c.args.coefficients.now (c.loop-k.k - 1) (pos 0)) (search rules), l.1, upper c.before.before) at c.b_of-b1.ensures)
     ∙ sym (rw (suc_before k (omega (arith, more))) at (b_turn (u_of_lem (goal.at.After-b_of-b1 c).At-loop-k) (coefficients_of (goal.at.After-b_of-b1 c).At-loop-k) (k - 1) (omega (arith, l.0))))
 
 one_left : (c : Else-k-eq0) → c.loop-k.k ≡ 1
@@ -95,7 +95,7 @@ last c =
     let one = one_left c.before.before in
     let e₁ = rw one at l.1 in
     let e₂ = rw one at l.2 in
-    (rw (made c.before.before.before.before.before.before.before, read_is _ (record { sfits = c.last-1.given }), e₁, e₂) at c.b_of-b.ensures)
+    (rw (made c.before.before.before.before.before.before.before, read_is (get_or c.args.coefficients.now 1 (pos 0)) (search rules), e₁, e₂) at c.b_of-b.ensures)
     ∙ sym (b_turn (u_of_lem (goal.at.After-b_of-b c).At-loop-k) (coefficients_of (goal.at.After-b_of-b c).At-loop-k) 1 (omega (arith, l.0)))
 
 pub overflow_sub-n : goal.overflow_sub-n
@@ -107,7 +107,7 @@ bounds-coefficients-0 c = c.requires.some
 pub returns-then-n-eq0 : goal.returns-then-n-eq0
 returns-then-n-eq0 c =
     let one : length c.args.coefficients.now ≡ 1 = omega (arith, c.requires.some, c.if-n-eq0.true) in
-    read_is _ (record { sfits = c.result-1.given }) ∙ sym (alone c.args.coefficients.now c.args.place c.args.length one)
+    read_is (get_or c.args.coefficients.now 0 (pos 0)) (search rules) ∙ sym (alone c.args.coefficients.now c.args.place c.args.length one)
 
 pub argument-u-requires : goal.argument-u-requires
 argument-u-requires c = c.requires.placed
@@ -126,7 +126,7 @@ loop-k-init c =
     let some : 0 < n = omega (arith, c.if-n-eq0.false) in
     let back = suc_before n some in (
       omega (arith, some),
-      rw back (read_is _ (record { sfits = c.b1-1.given }) ∙ first u cs n (omega (arith, some))),
+      rw back (read_is (get_or c.args.coefficients.now (length c.args.coefficients.now - 1) (pos 0)) (search rules) ∙ first u cs n (omega (arith, some))),
       rw back (sym (b_top u cs (suc n) (omega (arith, some)))),
     )
 
@@ -134,7 +134,7 @@ pub bounds-coefficients-k : goal.bounds-coefficients-k
 bounds-coefficients-k c = omega (arith, c.loop-k.invariant.0)
 
 pub b_of-b2-requires : goal.b_of-b2-requires
-b_of-b2-requires c = rw (made c.before.before.before.before, read_is _ (record { sfits = c.c-1.given }), c.loop-k.invariant.1, c.loop-k.invariant.2) (terms_of (goal.at.b_of-b2-requires c).At-loop-k c.loop-k.k)
+b_of-b2-requires c = rw (made c.before.before.before.before, read_is (get_or c.args.coefficients.now c.loop-k.k (pos 0)) (search rules), c.loop-k.invariant.1, c.loop-k.invariant.2) (terms_of (goal.at.b_of-b2-requires c).At-loop-k c.loop-k.k)
 
 pub bounds-coefficients-k-in-loop-k : goal.bounds-coefficients-k-in-loop-k
 bounds-coefficients-k-in-loop-k c = omega (arith, c.loop-k.invariant.0)
@@ -143,7 +143,7 @@ pub b_of-b1-requires : goal.b_of-b1-requires
 b_of-b1-requires c =
     let k = c.loop-k.k in
     let more = c.loop-k-test.true in
-    rw (made c.before.before.before.before.before.before, read_is _ (record { sfits = c.next-1.given }), c.loop-k.invariant.1, upper c.before)
+    rw (made c.before.before.before.before.before.before, read_is (get_or c.args.coefficients.now (c.loop-k.k - 1) (pos 0)) (search rules), c.loop-k.invariant.1, upper c.before)
     (rw (suc_before k (omega (arith, more))) at (terms_of (goal.at.b_of-b1-requires c).At-loop-k (k - 1)))
 
 pub loop-k-preserved : goal.loop-k-preserved
@@ -162,14 +162,14 @@ v_of-requires c =
     let none : c.loop-k.k ≡ 0 = omega (arith, c.if-k-eq0.true) in
     let e₁ = rw none at c.loop-k.invariant.1 in
     let e₂ = rw none at c.loop-k.invariant.2 in
-    rw (made c.before.before.before.before.before, read_is _ (record { sfits = c.c-2-1.given }), e₁, e₂) (terms_of (goal.at.v_of-requires c).At-loop-k 0)
+    rw (made c.before.before.before.before.before, read_is (get_or c.args.coefficients.now 0 (pos 0)) (search rules), e₁, e₂) (terms_of (goal.at.v_of-requires c).At-loop-k 0)
 
 pub returns-then-k-eq0 : goal.returns-then-k-eq0
 returns-then-k-eq0 c =
     let none : c.loop-k.k ≡ 0 = omega (arith, c.if-k-eq0.true) in
     let e₁ = rw none at c.loop-k.invariant.1 in
     let e₂ = rw none at c.loop-k.invariant.2 in
-    (rw (made c.before.before.before.before.before.before, read_is _ (record { sfits = c.c-2-1.given }), e₁, e₂) at c.v_of.ensures)
+    (rw (made c.before.before.before.before.before.before, read_is (get_or c.args.coefficients.now 0 (pos 0)) (search rules), e₁, e₂) at c.v_of.ensures)
     ∙ sym (end c.args.coefficients.now c.args.place c.args.length)
 
 pub bounds-coefficients-1 : goal.bounds-coefficients-1
@@ -180,15 +180,15 @@ b_of-b-requires c =
     let one = one_left c.before in
     let e₁ = rw one at c.loop-k.invariant.1 in
     let e₂ = rw one at c.loop-k.invariant.2 in
-    rw (made c.before.before.before.before.before.before, read_is _ (record { sfits = c.last-1.given }), e₁, e₂) (terms_of (goal.at.b_of-b-requires c).At-loop-k 1)
+    rw (made c.before.before.before.before.before.before, read_is (get_or c.args.coefficients.now 1 (pos 0)) (search rules), e₁, e₂) (terms_of (goal.at.b_of-b-requires c).At-loop-k 1)
 
 pub v_of-requires-2 : goal.v_of-requires-2
 v_of-requires-2 c =
     let e₁ = rw (one_left c.before.before) at c.loop-k.invariant.1 in
-    rw (made c.before.before.before.before.before.before.before, read_is _ (record { sfits = c.c-2-1.given }), e₁, last c) (terms_of (goal.at.v_of-requires-2 c).At-loop-k 0)
+    rw (made c.before.before.before.before.before.before.before, read_is (get_or c.args.coefficients.now 0 (pos 0)) (search rules), e₁, last c) (terms_of (goal.at.v_of-requires-2 c).At-loop-k 0)
 
 pub returns : goal.returns
 returns c =
     let e₁ = rw (one_left c.before.before.before) at c.loop-k.invariant.1 in
-    (rw (made c.before.before.before.before.before.before.before.before, read_is _ (record { sfits = c.c-2-1.given }), e₁, last c.before) at c.v_of-2.ensures)
+    (rw (made c.before.before.before.before.before.before.before.before, read_is (get_or c.args.coefficients.now 0 (pos 0)) (search rules), e₁, last c.before) at c.v_of-2.ensures)
     ∙ sym (end c.args.coefficients.now c.args.place c.args.length)

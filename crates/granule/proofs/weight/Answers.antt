@@ -35,7 +35,7 @@ abbrev at : After-size-heavy → ℕ
 at c = c.loop-k.k - 1
 
 sized : (c : After-size-heavy) → c.size-heavy.result ≡ nat_abs (get_or (all c) (at c) (pos 0))
-sized c = rw (read_is _ (record { sfits = c.c-1.given })) at c.size-heavy.ensures
+sized c = rw (read_is (get_or (all c) (at c) (pos 0)) (search rules)) at c.size-heavy.ensures
 
 turned : (c : After-size-heavy)
     → at c * at c * c.size-heavy.result + c.loop-k.sum ≡ weight_from (at c) (drop (at c) (all c))

@@ -6,12 +6,6 @@ use mathlib.Core.Path.{◌≡◌}
 use native.Mathlib.Omega.{arith}
 use Rattle.words.proofs.byte_of.Goals as goal
 
-past : {a j : ℕ} → a ≤ j → (j ≡ a → ⊥) → a + 1 ≤ j
-past h n = omega arith
-
-last : {j : ℕ} → 7 ≤ j → j < 8 → j ≡ 7
-last h k = omega arith
-
 pub returns-in-0 : goal.returns-in-0
 returns-in-0 c = rw c.in-0.is (omega arith)
 
@@ -35,8 +29,5 @@ returns-in-6 c = rw c.in-6.is
 
 pub returns-in_default : goal.returns-in_default
 returns-in_default c =
-    let r = c.in_default.in_default-own.rest in
-    let e : c.args.j ≡ 7 =
-    last (past (past (past (past (past (past (past zero-le r.0.0.0.0.0.0.1) r.0.0.0.0.0.1) r.0.0.0.0.1) r.0.0.0.1)
-    r.0.0.1) r.0.1) r.1) c.requires in
+    let e : c.args.j ≡ 7 = omega arith in
     rw e

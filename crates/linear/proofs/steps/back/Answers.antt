@@ -12,20 +12,17 @@ use Rattle.scales.specs.Tick.{furthest, is_valid}
 use Rattle.scales.proofs.Range.{valid_size}
 use Rattle.linear.proofs.Methods.{step_no, step_yes}
 use Rattle.linear.proofs.steps.back.Goals as goal
-use Rattle.linear.proofs.steps.back.Goals.{After-struct_told-1, Else-not-valid}
-
-told : (c : After-struct_told-1) → SFits w64 c.args.epoch.tick
-told c = record { sfits = c.struct_told-1.given.1.0.1 }
+use Rattle.linear.proofs.steps.back.Goals.{Else-not-valid}
 
 pub returns-then-not-valid : goal.returns-then-not-valid
-returns-then-not-valid c = step_no _ _ (rw (read_is _ (told (goal.at.returns-then-not-valid c).After-struct_told-1)) at (sym c.valid.ensures ∙ c.if-not-valid.true))
+returns-then-not-valid c = step_no _ _ (rw (read_is c.args.epoch.tick (search rules)) at (sym c.valid.ensures ∙ c.if-not-valid.true))
 
 valid_yes : (c : Else-not-valid) → is_valid c.args.epoch.tick ≡ true
-valid_yes c = rw (read_is _ (told (goal.at.Else-not-valid c).After-struct_told-1)) at (sym c.valid.ensures ∙ c.if-not-valid.false)
+valid_yes c = rw (read_is c.args.epoch.tick (search rules)) at (sym c.valid.ensures ∙ c.if-not-valid.false)
 
 -- a valid tick is near enough, as the code reads it
 near : (c : Else-not-valid) → nat_abs (read c.args.epoch.tick) ≤ furthest
-near c = rw (read_is _ (told (goal.at.Else-not-valid c).After-struct_told-1)) (valid_size _ (valid_yes c))
+near c = rw (read_is c.args.epoch.tick (search rules)) (valid_size _ (valid_yes c))
 
 pub to_gps-requires : goal.to_gps-requires
 to_gps-requires c = near (goal.at.to_gps-requires c).Else-not-valid
@@ -42,23 +39,23 @@ to_tcb-requires c = near (goal.at.to_tcb-requires c).Else-not-valid
 pub returns-in-GpsTai : goal.returns-in-GpsTai
 returns-in-GpsTai c =
     rw c.in-GpsTai.is
-    (step_yes _ _ c.to_gps.result.0 (told (goal.at.returns-in-GpsTai c).After-struct_told-1) (record { sfits = c.struct_told-in-GpsTai-1.given.0.1 })
+    (step_yes _ _ c.to_gps.result.0 (search rules) (search rules)
     (valid_yes (goal.at.returns-in-GpsTai c).Else-not-valid) c.keep.ensures c.to_gps.ensures)
 
 pub returns-in-TaiTt : goal.returns-in-TaiTt
 returns-in-TaiTt c =
     rw c.in-TaiTt.is
-    (step_yes _ _ c.to_tai.result.0 (told (goal.at.returns-in-TaiTt c).After-struct_told-1) (record { sfits = c.struct_told-in-TaiTt-1.given.0.1 })
+    (step_yes _ _ c.to_tai.result.0 (search rules) (search rules)
     (valid_yes (goal.at.returns-in-TaiTt c).Else-not-valid) c.keep-in-TaiTt.ensures c.to_tai.ensures)
 
 pub returns-in-TcgTt : goal.returns-in-TcgTt
 returns-in-TcgTt c =
     rw c.in-TcgTt.is
-    (step_yes _ _ c.to_tcg.result.0 (told (goal.at.returns-in-TcgTt c).After-struct_told-1) (record { sfits = c.struct_told-in-TcgTt-1.given.0.1 })
+    (step_yes _ _ c.to_tcg.result.0 (search rules) (search rules)
     (valid_yes (goal.at.returns-in-TcgTt c).Else-not-valid) c.keep-in-TcgTt.ensures c.to_tcg.ensures)
 
 pub returns-in-TcbTdb : goal.returns-in-TcbTdb
 returns-in-TcbTdb c =
     rw c.in-TcbTdb.is
-    (step_yes _ _ c.to_tcb.result.0 (told (goal.at.returns-in-TcbTdb c).After-struct_told-1) (record { sfits = c.struct_told-in-TcbTdb-1.given.0.1 })
+    (step_yes _ _ c.to_tcb.result.0 (search rules) (search rules)
     (valid_yes (goal.at.returns-in-TcbTdb c).Else-not-valid) c.keep-in-TcbTdb.ensures c.to_tcb.ensures)

@@ -32,21 +32,11 @@ returns-in-6 c = rw c.in-6.is
 pub returns-in-7 : goal.returns-in-7
 returns-in-7 c = rw c.in-7.is
 
--- what is none of the numbers before is past the end of the list of codes, and names what stands
--- there
-abbrev NoneBelow : ℕ → ℕ → Type 0
-NoneBelow n zero = Unit {0}
-NoneBelow n (suc k) = NoneBelow n k × (n ≡ k → ⊥)
-
-above : (n k : ℕ) → NoneBelow n k → k ≤ n
-above n zero none = zero-le
-above n (suc k) none = past k n (above n k none.0) none.1
-  where
-    past : (k n : ℕ) → k ≤ n → (n ≡ k → ⊥) → suc k ≤ n
-    past k n h d = omega (arith, d)
-
+-- what is past the end of the list of codes names what stands there
 no_code : (n : ℕ) → length coded ≤ n → named n ≡ Tt
 no_code n h = get_or-eq_default coded Tt h
 
 pub returns-in_default : goal.returns-in_default
-returns-in_default c = let n = c.args.code in sym (no_code n (above n (length coded) c.in_default.in_default-own.rest))
+returns-in_default c =
+    let past : length coded ≤ c.args.code = omega arith in
+    sym (no_code c.args.code past)

@@ -4,4 +4,4 @@ use Rattle.linear.proofs.Methods.{shifted_on}
 use Rattle.linear.proofs.steps.Gps.to_tai.Goals as goal
 
 pub returns : goal.returns
-returns c = shifted_on _ _ (record { sfits = c.struct_told-1.given.0.1 }) (record { sfits = c.moved.type_inv }) 19000000000 c.moved.ensures
+returns c = shifted_on _ _ (search rules) (record { sfits = c.moved.type_inv }) 19000000000 c.moved.ensures

@@ -2,22 +2,23 @@
 -- The constants of the code are what the law asks by computation. Assumes nothing.
 use borrow.Author.Rules.{rules}
 use mathlib.Core.Path.{◌≡◌, refl, ◌∙◌}
+use native.Mathlib.Omega.{arith}
 use lib.Dec.{lit≤}
+use Rattle.std.proofs.lemmas.Int.{ints}
 use Rattle.numbers.proofs.Machine.{read, read_is}
 use Rattle.linear.proofs.Fractions.{count_small, tdb_nearest}
 use Rattle.linear.proofs.steps.Tcb.to_tdb.Goals as goal
-use Rattle.linear.proofs.steps.Tcb.to_tdb.Goals.{After-struct_told-1}
-
-tick_is : (c : After-struct_told-1) → read c.args.self.0 ≡ c.args.self.0
-tick_is c = read_is _ (record { sfits = c.struct_told-1.given.0.1 })
 
 pub tdb_loses-loses-requires : goal.tdb_loses-loses-requires
-tdb_loses-loses-requires c = count_small c.args.self.0 c.biased.result _ c.requires (lit≤ tt) (rw (tick_is c.before) at c.biased.ensures)
+tdb_loses-loses-requires c =
+    let tick_is : read c.args.self.0 ≡ c.args.self.0 = omega (arith, ints) in
+    count_small c.args.self.0 c.biased.result _ c.requires (lit≤ tt) (rw tick_is at c.biased.ensures)
 
 pub returns : goal.returns
 returns c =
-    let count = rw (tick_is c.before.before.before) at c.biased.ensures in
+    let tick_is : read c.args.self.0 ≡ c.args.self.0 = omega (arith, ints) in
+    let count = rw tick_is at c.biased.ensures in
     read_is _ (record { sfits = c.moved.type_inv })
     ∙ c.moved.ensures
-    ∙ rw (tick_is c.before.before.before)
+    ∙ rw tick_is
     (tdb_nearest c.args.self.0 c.biased.result c.tdb_loses-loses.result _ _ count refl refl c.tdb_loses-loses.ensures)
