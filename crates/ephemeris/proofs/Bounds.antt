@@ -46,7 +46,7 @@ module _ (T : Table) (B : Bounded T) where
   unfolding last_place
   last_small = mul-le-mul B.few.granules short
 
-  -- H is above 0, so S + G-as-H is the same tick over ℤ and over the places
+  -- H is above 0, so S + G·H is the same tick over ℤ and over the places
   last_is : S T +ℤ pos (last_place T) ≡ end_of T
   unfolding last_place
   last_is = ap (λ (z : ℤ). S T +ℤ pos T.count *ℤ z) (sym (natural T B))

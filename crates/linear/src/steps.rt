@@ -80,7 +80,7 @@ impl Tt {
 }
 
 impl Tcg {
-    // 'TT = TCG − L_G.TCG, with L_G = 6969290134 / 10^19.' The bias is 2·D, over which TT loses
+    // 'TT = TCG − L_G·TCG, with L_G = 6969290134 / 10^19.' The bias is 2·D, over which TT loses
     // 2·L.
     fn to_tt(self) -> Tt
         requires { nat_abs self.0 ≤ furthest }
@@ -106,7 +106,7 @@ impl Tdb {
 }
 
 impl Tcb {
-    // 'TDB = TCB − L_B.TCB − 65,500 ticks, with L_B = 1550519768 / 10^17.' The bias is 480·D, over
+    // 'TDB = TCB − L_B·TCB − 65,500 ticks, with L_B = 1550519768 / 10^17.' The bias is 480·D, over
     // which TDB loses 480·L.
     fn to_tdb(self) -> Tdb
         requires { nat_abs self.0 ≤ furthest }

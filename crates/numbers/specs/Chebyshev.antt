@@ -2,7 +2,7 @@
 -- H^k·T_k(p/H), and W p H k is H^k·U_k(p/H).
 use Rattle.std.specs.Prelude.{ℕ, zero, suc, ℤ, pos, ◌-ℤ◌, ◌*ℤ◌}
 
--- 'E_0 = 1, E_1 = p and E_(k+1) = 2p·E_k − H²-as-E_(k−1)'
+-- 'E_0 = 1, E_1 = p and E_(k+1) = 2p·E_k − H²·E_(k−1)'
 unfoldable pub E : ℤ → ℤ → ℕ → ℤ
 E p h zero = pos 1
 E p h (suc zero) = p

@@ -29,7 +29,7 @@ each (b ∷ bs) t (suc i) = each bs (and_yes b (every bs) t).1 i
 
 -- L / D of up to `most`, with `half` for a half of D, by M / U, with h for a half of U
 module _ (L D half most M h U : ℕ) where
-  -- M / U is L / D less error / (D-as-U)
+  -- M / U is L / D less error / (D·U)
   abbrev error : ℕ
   error = L * U - M * D
 

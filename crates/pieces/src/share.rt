@@ -1,5 +1,5 @@
-// The rounded product of a linear step: typeof.b.M / 2^s to the nearest, a half to the greater, with an M
-// of 94 bits. With M = L·2^s / D rounded down it is typeof.b.L / D to the nearest, with no division
+// The rounded product of a linear step: b·M / 2^s to the nearest, a half to the greater, with an M
+// of 94 bits. With M = L·2^s / D rounded down it is b·L / D to the nearest, with no division
 // (`proofs/Exact.antt` says why).
 ghost use Rattle.std.specs.Prelude.{◌≡◌, ◌+◌, ◌^◌, ◌≤◌};
 ghost use Rattle.pieces.specs.Pieces.{value};

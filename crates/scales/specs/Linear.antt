@@ -17,11 +17,11 @@ gps_to_tai = record { times = 1; over = 1; plus = pos 19000000000 }
 abbrev pub tai_to_tt : Linear
 tai_to_tt = record { times = 1; over = 1; plus = pos 32184000000 }
 
--- 'TT = TCG − L_G-as-TCG, with L_G = 6969290134 / 10^19.'
+-- 'TT = TCG − L_G·TCG, with L_G = 6969290134 / 10^19.'
 abbrev pub tcg_to_tt : Linear
 tcg_to_tt = record { times = 10 ^ 19 - 6969290134; over = 10 ^ 19; plus = pos 0 }
 
--- 'TDB = TCB − L_B-as-TCB − 65,500 ticks, with L_B = 1550519768 / 10^17.'
+-- 'TDB = TCB − L_B·TCB − 65,500 ticks, with L_B = 1550519768 / 10^17.'
 abbrev pub tcb_to_tdb : Linear
 tcb_to_tdb =
     record { times = 10 ^ 17 - 1550519768; over = 10 ^ 17; plus = neg_ℤ (pos (65500 * 10 ^ 17)) }

@@ -8,7 +8,7 @@ ghost use Rattle.scales.specs.Path.{crosses};
 use crate::scale::Scale;
 
 // The edges that are linear, each from and to as the page writes its equation: 'TAI = GPS + 19 s',
-// 'TT = TAI + 32.184 s', 'TT = TCG − L_G.TCG', 'TDB = TCB − L_B.TCB − 65,500 ticks'.
+// 'TT = TAI + 32.184 s', 'TT = TCG − L_G·TCG', 'TDB = TCB − L_B·TCB − 65,500 ticks'.
 #[derive(Clone, Copy)]
 pub enum Line {
     GpsTai,
