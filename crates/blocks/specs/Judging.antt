@@ -1,6 +1,7 @@
 -- The tests of a table in their order, judging, reading and writing: 'the table 10 to 16 .., each
 -- test over all blocks before the next (12 for block 0, 13, then 12 for the others)'.
-use Rattle.std.specs.Prelude.{◌≡◌, Bool, ◌&&◌, List, [], ◌∷◌, ◌++◌, ℕ, ◌*◌, ◌/◌, ◌%◌, eqb, leb, ℤ, length}
+use Rattle.std.specs.Prelude.{◌≡◌, Bool, ◌&&◌, List, [], ◌∷◌, ◌++◌, ℕ, ◌*◌, ◌/◌, ◌%◌, eqb, leb, ℤ}
+use Rattle.std.specs.Prelude.{length}
 use Rattle.numbers.specs.Tests.{Test, test, single, verdict}
 use Rattle.linear.specs.declared.steps.Tt.{Tt}
 use Rattle.words.specs.Words.{block, most_blocks}

@@ -79,7 +79,8 @@ module _ (first second : ℕ → List ℤ) where
     where
       by : (v : Bool) → differs (first n) (second n) ≡ v
           → (j < length (es n) → (entry_in (es n) i).granule < (entry_in (es n) j).granule)
-          → (entry_in (changes_to first second (suc n)) i).granule < (entry_in (changes_to first second (suc n)) j).granule
+          → (entry_in (changes_to first second (suc n)) i).granule
+          < (entry_in (changes_to first second (suc n)) j).granule
       by false d rest = rw (stays n d) (rest (rw (stays n d) at h))
       by true d rest =
           rw (more n d)

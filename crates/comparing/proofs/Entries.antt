@@ -30,7 +30,8 @@ module _ (first second : ℕ → List ℤ) where
     unfolding changes_to
     changes_more e = rw (add-one g, e)
 
-    pub changes_stay : differs (first g) (second g) ≡ false → changes_to first second (g + 1) ≡ changes_to first second g
+    pub changes_stay : differs (first g) (second g) ≡ false → changes_to first second (g + 1)
+        ≡ changes_to first second g
     unfolding changes_to
     changes_stay e = rw (add-one g, e)
 

@@ -15,7 +15,8 @@ use Rattle.comparing.specs.Comparing.{changes_of, compare_tests, compared_of}
 
 module _ (first second : List ℕ) (many : ℕ) where
   told : let answer = compared_of first second many in
-      told_by_lists (compare_tests first second many) ≡ (compared_number answer, compared_place answer, compared_which answer)
+      told_by_lists (compare_tests first second many)
+      ≡ (compared_number answer, compared_place answer, compared_which answer)
   unfolding compared_of compared_number compared_place compared_which
   told =
       sym (verdicts_map (λ answer. (compared_number answer, compared_place answer, compared_which answer)) compared_refused

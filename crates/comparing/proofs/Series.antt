@@ -82,7 +82,14 @@ from_is H k [] m i =
     rw (e, exact_nil (p_of i H) H k) (series_none H k (λ j. pos 0) m i (λ j h. refl) ∙ sym (*ℤ-zero (pos (H ^ m))))
 from_is H k (c ∷ cs) m i =
     let e : suc (length cs) + m ≡ suc (length cs + m) = omega arith in
-    rw (e, series_cons H k (λ j. get_or (c ∷ cs) j (pos 0)) (length cs + m) i, from_is H (suc k) cs m i, exact_cons (p_of i H) H k c cs, pow-add H (length cs) m)
+    rw (
+      e,
+      series_cons H k (λ j. get_or (c ∷ cs) j (pos 0)) (length cs + m) i,
+      from_is H (suc k) cs m i,
+      exact_cons (p_of i H) H k c cs,
+      pow-add H (length cs)
+          m,
+    )
     (filled_id c (pos (H ^ length cs)) (pos (H ^ m)) (E (p_of i H) (pos H) k) (exact_from (p_of i H) H (suc k) cs))
 
 pub at_is : (H : ℕ) (cs : List ℤ) (m i : ℕ)

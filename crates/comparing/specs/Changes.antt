@@ -1,7 +1,8 @@
 -- 'list each granule that differs, in rising order, with the largest coefficient difference and the
 -- sum of the absolute differences, a missing coefficient counting as zero.' A granule's
 -- coefficients are a list, c_0 first.
-use Rattle.std.specs.Prelude.{Bool, cond, not, List, [], ◌∷◌, ◌++◌, ℕ, zero, suc, ◌+◌, max, eqb, ℤ, pos, length, get_or}
+use Rattle.std.specs.Prelude.{Bool, cond, not, List, [], ◌∷◌, ◌++◌, ℕ, zero, suc, ◌+◌, max, eqb, ℤ}
+use Rattle.std.specs.Prelude.{pos, length, get_or}
 use Rattle.numbers.specs.Lowest.{every}
 use Rattle.numbers.specs.Signs.{gap}
 

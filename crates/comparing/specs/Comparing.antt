@@ -1,6 +1,7 @@
 -- 'Take two block images with equal S, H and G and list each granule that differs': the whole rule,
 -- and what it leaves of the lent list.
-use Rattle.std.specs.Prelude.{◌≡◌, Bool, ◌&&◌, List, [], ◌∷◌, ◌++◌, ℕ, ◌*◌, eqb, leb, ℤ, length, drop}
+use Rattle.std.specs.Prelude.{◌≡◌, Bool, ◌&&◌, List, [], ◌∷◌, ◌++◌, ℕ, ◌*◌, eqb, leb, ℤ, length}
+use Rattle.std.specs.Prelude.{drop}
 use Rattle.numbers.specs.Signs.{gap}
 use Rattle.numbers.specs.Tests.{Test, single, verdicts}
 use Rattle.image.specs.declared.table.Table.{Table}

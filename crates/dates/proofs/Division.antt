@@ -130,12 +130,13 @@ day_share : day_ticks * share < unit
 day_share = lit< tt
 
 module _ (t g M L : ℕ) (h : t < day_ticks) (l : day_ticks * L < M)
-    (e : (2 * (g * day_ticks) ≤ 2 * (t * M) + day_ticks * L) × (2 * (t * M) ≤ 2 * (g * day_ticks) + day_ticks * L)) where
-  nearest_size : (2 * (M * t) ≤ 2 * (g * day_ticks) + M) × (2 * (g * day_ticks) + M < 2 * (M * t) + 2 * M)
-  nearest_size = omega (arith, mul_comm M t)
+    (e : (2 * (g * day_ticks) ≤ 2 * (t * M) + day_ticks * L) × (2 * (t * M) ≤ 2 * (g * day_ticks) + day_ticks * L))
+  where
+    nearest_size : (2 * (M * t) ≤ 2 * (g * day_ticks) + M) × (2 * (g * day_ticks) + M < 2 * (M * t) + 2 * M)
+    nearest_size = omega (arith, mul_comm M t)
 
-  less_than_day : g < M
-  less_than_day = lt_of_mul-lt-mul_right day_ticks (let k : g * day_ticks < M * day_ticks = omega (arith, mul-le-mul_right M h) in k)
+    less_than_day : g < M
+    less_than_day = lt_of_mul-lt-mul_right day_ticks (let k : g * day_ticks < M * day_ticks = omega (arith, mul-le-mul_right M h) in k)
 
 -- t ticks of a day, as a double of days
 abbrev part_of_day : ℕ → Float

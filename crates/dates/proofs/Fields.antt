@@ -103,7 +103,8 @@ module _ (x : Float) (F : T (fits binary64 x)) (fine : T (finite x)) where
   higher j e =
       let q : x ≡ of_fields binary64 s (suc j) (low_of b) = is ∙ ap (λ (k : ℕ). of_fields binary64 s k (low_of b)) e in
       twice x ((2 ^ 52 + low_of b) * 2 ^ j) (2 ^ suc j * digits)
-      (subst (λ (k : Float). HasValue k s ((2 ^ 52 + low_of b) * 2 ^ j) (2 ^ 1074)) (sym q) (at_high s j (low_of b) (subst (λ (k : Float). T (finite k)) q fine)))
+      (subst (λ (k : Float). HasValue k s ((2 ^ 52 + low_of b) * 2 ^ j) (2 ^ 1074)) (sym q)
+      (at_high s j (low_of b) (subst (λ (k : Float). T (finite k)) q fine)))
       (go (2 ^ j) (2 ^ suc j) (low_of b) (pow-suc 2 j))
     where
       go : (p q l : ℕ) → q ≡ p * 2 → q * (l + 4503599627370496) ≡ 2 * ((4503599627370496 + l) * p)

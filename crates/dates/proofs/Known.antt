@@ -115,7 +115,8 @@ pub record KnownSplits : Type 0 where
   pub less_first : Accepts (read_of_parts (fin true 1 (negsuc 1073)) half) (pos 43169793539062)
 
 pub known_splits : KnownSplits
-unfolding read_of_parts in_range is_valid tick_of_date tick_of_sum sum_numerator sum_denominator nearest floor_div numerator denominator beyond read_number read_tick
+unfolding read_of_parts in_range is_valid tick_of_date tick_of_sum sum_numerator sum_denominator nearest floor_div numerator denominator beyond read_number
+    read_tick
 known_splits = record {
   noon = (refl, refl);
   midnight = (refl, refl);

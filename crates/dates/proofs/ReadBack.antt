@@ -162,7 +162,8 @@ module _ (tick : ℤ) (v : is_valid tick ≡ true) where
 
   -- the second part lies in [0, 1)
   pub second_in_day : (finite (second_part tick) ≡ true)
-      × ((pos 0 ≤ℤ numerator (second_part tick)) × (numerator (second_part tick) <ℤ pos (denominator (second_part tick))))
+      × ((pos 0 ≤ℤ numerator (second_part tick))
+      × (numerator (second_part tick) <ℤ pos (denominator (second_part tick))))
   second_in_day = (second_finite, below_one (second_part tick) (grid binary64 r day_ticks) (2 ^ 1074) (pow_pos 1074) second_value (part_under r r_small))
 
 -- 'the last Julian date ending in .5 not after it': the day is at or before the tick, and the next

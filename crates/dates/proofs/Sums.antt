@@ -76,7 +76,8 @@ far_whole (fin s (suc m) (negsuc k)) f h =
         go : (k : ℕ) → k ≤ 32 → k + (32 - k) ≡ 32
         go k h = omega arith
 
-    turn : (d c : ℕ) → d * c ≡ 4294967296 → (z : ℤ) → pos (65536 * day_ticks) *ℤ z ≡ pos d *ℤ (pos (c * 1318359375) *ℤ z)
+    turn : (d c : ℕ) → d * c ≡ 4294967296 → (z : ℤ) → pos (65536 * day_ticks) *ℤ z
+        ≡ pos d *ℤ (pos (c * 1318359375) *ℤ z)
     turn d c e = rep _ (λ a b. simp lin (omega (arith, ap (λ (n : ℕ). n * a) e, ap (λ (n : ℕ). n * b) e)))
 
 -- a far part's pieces

@@ -94,7 +94,8 @@ module _ (x : Float) (digits : ℤ) (e : ℕ) (t : Apart x digits e) where
   Value = pos (2 ^ 1075) *ℤ numerator x ≡ pos D *ℤ (pos (2 ^ e) *ℤ digits)
 
   size : Value → 2 ^ 1075 * N ≡ D * (2 ^ e * m)
-  size v = sym (abs-* (pos (2 ^ 1075)) (numerator x)) ∙ ap nat_abs v ∙ abs-* (pos D) (pos (2 ^ e) *ℤ digits) ∙ ap (λ (z : ℕ). D * z) (abs-* (pos (2 ^ e)) digits)
+  size v = sym (abs-* (pos (2 ^ 1075)) (numerator x)) ∙ ap nat_abs v ∙ abs-* (pos D) (pos (2 ^ e) *ℤ digits)
+      ∙ ap (λ (z : ℕ). D * z) (abs-* (pos (2 ^ e)) digits)
 
   -- the range, in the digits' units
   in_units : (most : ℕ) → Readable most x → Value → 2 ^ e * m ≤ 2 ^ 1075 * most

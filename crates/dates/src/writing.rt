@@ -35,7 +35,8 @@ fn since_first(tick: i64) -> u64
 // a half is a product to a compiler, for which a 32-bit box would need a helper.
 fn julian_date(days: u64) -> f64
     requires { days ≤ 140000 }
-    ensures { result ≡ div binary64 (of_int binary64 (pos (2 * days + 4746289))) (of_int binary64 (pos 2)) }
+    ensures { result
+        ≡ div binary64 (of_int binary64 (pos (2 * days + 4746289))) (of_int binary64 (pos 2)) }
 {
     ((86_400 * days + 205_039_684_800) as f64) / 86_400.0
 }
@@ -44,7 +45,8 @@ fn julian_date(days: u64) -> f64
 // day's ticks are cast exactly.
 fn part_of_day(ticks: u64) -> f64
     requires { ticks < day_ticks }
-    ensures { result ≡ div binary64 (of_int binary64 (pos ticks)) (of_int binary64 (pos day_ticks)) }
+    ensures { result
+        ≡ div binary64 (of_int binary64 (pos ticks)) (of_int binary64 (pos day_ticks)) }
 {
     (ticks as f64) / 86_400_000_000_000.0
 }

@@ -68,7 +68,8 @@ module _ (t : ℤ) where
   unfolding in_range
   in_range_valid tick e = by (is_valid tick) refl e
     where
-      by : (valid : Bool) → is_valid tick ≡ valid → refused_if (not valid) 4 0 (R.Tick tick) ≡ R.Tick t → is_valid t ≡ true
+      by : (valid : Bool) → is_valid tick ≡ valid → refused_if (not valid) 4 0 (R.Tick tick) ≡ R.Tick t → is_valid t
+          ≡ true
       by true v e = let same : tick ≡ t = cc in rw (← same) v
       by false v e = unread e
 
@@ -166,7 +167,8 @@ module _ (reads writes : Purpose) (from to : ℕ) (fits right : Bool) (read : Re
       by : (read : Read) → ((tick : ℤ) → read ≡ R.Tick tick → is_valid tick ≡ true)
           → between_of (named from) (named to) read (held_by table) cs ≡ Converted epoch n → is_valid epoch.tick ≡ true
       by (R.Tick tick) v e =
-          walk_valid (held_by table) cs (held_by_lem table cs lent) (path (named from) (named to)) 0 (record { scale = named from; tick = tick }) (v tick refl) e
+          walk_valid (held_by table) cs (held_by_lem table cs lent) (path (named from) (named to)) 0 (record { scale = named from; tick = tick })
+          (v tick refl) e
       by (R.Refused refusal) v e = not_both refl e
 
 -- ---- and of a reading, over bytes

@@ -58,7 +58,8 @@ convert_judged purpose from to tick table coefficients =
 unfoldable pub convert_into : Purpose → ℕ → ℕ → Reading → List ℤ → List ℕ → Answer
 convert_into writes from to reading leaps bytes =
     let reads = purpose_of reading in
-    convert_read reads writes from to (leaps_fit reads writes leaps) (leaps_right reads writes leaps)
+    convert_read reads writes from to (leaps_fit reads writes leaps)
+    (leaps_right reads writes leaps)
     (read_of leaps reading) (judged bytes) (coefficients_in bytes)
 
 -- that of a conversion into ticks

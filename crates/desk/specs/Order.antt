@@ -1,7 +1,8 @@
 -- 'Order: 1 (from, then to), 8, then the table 10 to 16 if the path crosses TT to TDB, .., then 2
 -- ..', and of UTC '7 .. after 8 and before 10': what is settled before a reading is looked at, in
 -- this order, for one reading, for a line and for a batch.
-use Rattle.std.specs.Prelude.{Bool, true, false, cond, not, ◌||◌, List, [], ◌∷◌, ◌++◌, ℕ, ◌%◌, eqb, ℤ, length}
+use Rattle.std.specs.Prelude.{Bool, true, false, cond, not, ◌||◌, List, [], ◌∷◌, ◌++◌, ℕ, ◌%◌, eqb}
+use Rattle.std.specs.Prelude.{ℤ, length}
 use Rattle.scales.specs.declared.refusal.Refusal.{Refusal}
 use Rattle.scales.specs.declared.scale.Purpose.{Purpose}
 use Rattle.scales.specs.declared.scale.Purpose.TheVariants.{Reading, Batch, Line, Utc}
@@ -47,7 +48,8 @@ if_crossed from to check = cond (crosses (named from) (named to)) check passes
 
 unfoldable pub settled : Purpose → Purpose → ℕ → ℕ → Bool → Bool → Judged → Check
 settled reads writes from to fits right table =
-    first_of (before_table reads writes from to fits right ++ if_crossed from to (of_table table) ∷ [])
+    first_of (before_table reads writes from to fits right ++ if_crossed from to
+    (of_table table) ∷ [])
 
 -- ---- the list of leap seconds is looked at where one of the codes is read for UTC
 abbrev pub is_utc : Purpose → Bool

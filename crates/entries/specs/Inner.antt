@@ -15,7 +15,8 @@ later_of one other = cond (lt_z one other) other one
 -- the earliest and the latest, of a list and two ticks before it
 unfoldable pub ends_of : ℤ → ℤ → List ℤ → Ends
 ends_of earliest latest [] = record { earliest = earliest; latest = latest }
-ends_of earliest latest (tick ∷ more) = ends_of (sooner_of earliest tick) (later_of latest tick) more
+ends_of earliest latest (tick ∷ more) =
+    ends_of (sooner_of earliest tick) (later_of latest tick) more
 
 -- an answer that is no refusal
 abbrev pub is_accepted : Answer → Bool

@@ -52,7 +52,8 @@ module _ (T : Table) (cs : List ℤ) (A : Accepted T cs) (asked : ℤ) where
   far_uncovered e = ⊎_elim
       (λ (l : tdb_at T cs 0 ≤ℤ asked). ⊎_elim
       (λ (h : asked ≤ℤ tdb_at T cs (last_place T)). never (sym e ∙ near_is asked ∙ is_true _ (le→leb (nat_abs asked) furthest_tdb
-      (between_size furthest_tdb (tdb_at T cs 0) asked (tdb_at T cs (last_place T)) (tdb_near 0 zero-le) (tdb_near (last_place T) (le_refl (last_place T))) l h))))
+      (between_size furthest_tdb (tdb_at T cs 0) asked (tdb_at T cs (last_place T)) (tdb_near 0 zero-le) (tdb_near (last_place T) (le_refl (last_place T))) l
+      h))))
       (λ (h : tdb_at T cs (last_place T) <ℤ asked). and_right (le_z (tdb_at T cs 0) asked) (no_le asked (tdb_at T cs (last_place T)) h))
       (≤-total asked (tdb_at T cs (last_place T))))
       (λ (l : asked <ℤ tdb_at T cs 0). let x = no_le (tdb_at T cs 0) asked l in rw x)

@@ -39,7 +39,8 @@ module _ (T : Table) (cs : List ℤ) (A : Accepted T cs) where
   pub tdb_next : (i k : ℕ) → k ≤ 2 → i + k ≤ last_place T
       → ((tdb_at T cs i +ℤ pos k) ≤ℤ (tdb_at T cs (i + k) +ℤ pos 1))
       × (tdb_at T cs (i + k) ≤ℤ (tdb_at T cs i +ℤ pos (k + 1)))
-  tdb_next i k few h = rw (tdb_at_place T cs i, tdb_at_place T cs (i + k)) (step k (S T) (table_delay T cs (i + k)) (table_delay T cs i) i (delay_next i k few h))
+  tdb_next i k few h =
+      rw (tdb_at_place T cs i, tdb_at_place T cs (i + k)) (step k (S T) (table_delay T cs (i + k)) (table_delay T cs i) i (delay_next i k few h))
 
   -- ---- over the whole table, for any two ticks
   up : (i k : ℕ) → i + k ≤ last_place T → tdb_at T cs i ≤ℤ tdb_at T cs (i + k)

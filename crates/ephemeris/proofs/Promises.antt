@@ -115,7 +115,8 @@ module _ (T : Table) (cs : List ℤ) where
   unfolding tt_of tick_at
   order_back a b l = ticks_order (S T) (earliest_place T cs a) (earliest_place T cs b) (⊎_elim
       (λ (k : earliest_place T cs a ≤ earliest_place T cs b). k)
-      (λ (k : earliest_place T cs b < earliest_place T cs a). absurd (clash (tdb_at T cs (earliest_place T cs b)) a (earliest_none T cs a (earliest_place T cs b) k)
+      (λ (k : earliest_place T cs b < earliest_place T cs a).
+      absurd (clash (tdb_at T cs (earliest_place T cs b)) a (earliest_none T cs a (earliest_place T cs b) k)
       (≤_trans a b (tdb_at T cs (earliest_place T cs b)) l (earliest_found T cs b (omega (arith, earliest_inside T cs a))))))
       (le_or_lt (earliest_place T cs a) (earliest_place T cs b)))
 
@@ -209,7 +210,8 @@ module _ (T : Table) (cs : List ℤ) (A : Accepted T cs) where
       subst (λ (x : ℤ). (tt_of T cs (tdb_of T cs t) ≤ℤ x) × (x ≤ℤ (tt_of T cs (tdb_of T cs t) +ℤ pos 1))) (tick_of_place T t low)
       (rw e (near_tick i (earliest_place T cs (tdb_at T cs i)) p))
     where
-      near_tick : (i j : ℕ) → (j ≤ i) × (i ≤ j + 1) → (tick_at T j ≤ℤ tick_at T i) × (tick_at T i ≤ℤ (tick_at T j +ℤ pos 1))
+      near_tick : (i j : ℕ) → (j ≤ i) × (i ≤ j + 1) → (tick_at T j ≤ℤ tick_at T i)
+          × (tick_at T i ≤ℤ (tick_at T j +ℤ pos 1))
       near_tick i j p = (ticks_order (S T) j i p.0, next_tick (S T) i j p.1)
 
   pub back_and_there : (a : ℤ) → is_covered T cs a ≡ true

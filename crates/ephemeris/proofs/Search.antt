@@ -48,7 +48,8 @@ module _ (T : Table) (cs : List ℤ) (asked : ℤ) where
       (le_or_lt (earliest_place T cs asked) i)
 
   -- it is later than any tick before the last whose TDB is before the asked
-  pub earliest_later : Accepted T cs → (i : ℕ) → i < last_place T → tdb_at T cs i <ℤ asked → i < earliest_place T cs asked
+  pub earliest_later : Accepted T cs → (i : ℕ) → i < last_place T → tdb_at T cs i <ℤ asked
+      → i < earliest_place T cs asked
   earliest_later A i l h = ⊎_elim
       (λ (k : earliest_place T cs asked ≤ i). absurd (clash (tdb_at T cs i) asked h
       (≤_trans asked (tdb_at T cs (earliest_place T cs asked)) (tdb_at T cs i) (earliest_found (omega arith))

@@ -1,5 +1,6 @@
 -- What the inner functions ask of their callers, beside an accepted table.
-use Rattle.std.specs.Prelude.{◌≡◌, Bool, true, ◌&&◌, List, ℕ, ◌+◌, ◌^◌, ◌≤◌, min, ℤ, pos, negsuc, neg_ℤ, nat_abs}
+use Rattle.std.specs.Prelude.{◌≡◌, Bool, true, ◌&&◌, List, ℕ, ◌+◌, ◌^◌, ◌≤◌, min, ℤ, pos, negsuc}
+use Rattle.std.specs.Prelude.{neg_ℤ, nat_abs}
 use Rattle.std.specs.Int.Signed.{le_z}
 use Rattle.image.specs.declared.table.Table.{Table}
 use Rattle.ephemeris.specs.Table.{last_place, is_inside, earliest_place}

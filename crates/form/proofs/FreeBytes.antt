@@ -97,7 +97,8 @@ module _ (G n k : ℕ) (f : ℕ → ℕ) (j : ℕ) where
   pub right_fixed : (x : ℕ) → f j ≡ x → x ≡ fixed_byte G k j → is_right G n k f j ≡ true
   right_fixed x p q = or_right (is_free G n k j) (eq-eqb (f j) (fixed_byte G k j) (p ∙ q))
 
-  pub wrong_fixed : (x : ℕ) → is_free G n k j ≡ false → (f j ≡ x → ⊥) → x ≡ fixed_byte G k j → is_right G n k f j ≡ false
+  pub wrong_fixed : (x : ℕ) → is_free G n k j ≡ false → (f j ≡ x → ⊥) → x ≡ fixed_byte G k j → is_right G n k f j
+      ≡ false
   wrong_fixed x e p q = or_neither e (ne_eqb (f j) (fixed_byte G k j) (λ d. p (d ∙ sym q)))
 
   -- from byte 8 on, a zero is right, free or fixed

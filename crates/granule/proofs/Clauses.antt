@@ -27,7 +27,8 @@ unfolding exact_sum
 exact_is p H cs = refl
 
 -- ---- the recurrence, from c_k on
-pub b_now : (u c : ℤ) (cs : List ℤ) → (b_from u (c ∷ cs)).0 ≡ c +ℤ nearest (u *ℤ (b_from u cs).0) (2 ^ 29) -ℤ (b_from u cs).1
+pub b_now : (u c : ℤ) (cs : List ℤ) → (b_from u (c ∷ cs)).0
+    ≡ c +ℤ nearest (u *ℤ (b_from u cs).0) (2 ^ 29) -ℤ (b_from u cs).1
 unfolding b_from
 b_now u c cs = refl
 

@@ -46,10 +46,12 @@ turn = all₄ _ (λ ρ. simp quote (ring ρ _ _ tt))
 less : (Q H x W N d : ℕ) → 0 < H → 2 * d ≤ H → Q * H * x ≤ W * N * d → 2 * Q * x ≤ W * N
 less Q H x W N d h hd k = le_of_mul-le-mul_left {k = H} (omega (arith, mul-le-mul_left (W * N) hd)) h
 
-exact_near : (u p : ℤ) (H : ℕ) → 0 < H → nat_abs u ≤ Q → nat_abs p ≤ H → nat_abs (pos 2 *ℤ (pos H *ℤ u -ℤ pos Q *ℤ p)) ≤ H
+exact_near : (u p : ℤ) (H : ℕ) → 0 < H → nat_abs u ≤ Q → nat_abs p ≤ H
+    → nat_abs (pos 2 *ℤ (pos H *ℤ u -ℤ pos Q *ℤ p)) ≤ H
     → (cs : List ℤ) (n : ℕ)
     → n + 1 ≡ length cs
-    → 2 * Q * nat_abs (pos (H ^ n) *ℤ exact_sum u Q cs -ℤ pos (Q ^ n) *ℤ exact_sum p H cs) ≤ weight_of cs * (Q ^ n * H ^ n)
+    → 2 * Q * nat_abs (pos (H ^ n) *ℤ exact_sum u Q cs -ℤ pos (Q ^ n) *ℤ exact_sum p H cs) ≤ weight_of
+    cs * (Q ^ n * H ^ n)
 unfolding weight_of
 exact_near u p H h hu hp near cs n e =
     let e' : n + 1 ≡ 0 + length cs = omega arith in

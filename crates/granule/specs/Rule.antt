@@ -1,6 +1,7 @@
 -- The granule rule of 01, for one granule: its coefficients c_0, .., c_n are a list, c_0 first, and
 -- it is H ticks long. A tick stands in it at the place t − start, from 0 to H.
-use Rattle.std.specs.Prelude.{List, [], ◌∷◌, ℕ, suc, ◌^◌, ℤ, pos, ◌+ℤ◌, ◌-ℤ◌, ◌*ℤ◌, length, get_or, drop}
+use Rattle.std.specs.Prelude.{List, [], ◌∷◌, ℕ, suc, ◌^◌, ℤ, pos, ◌+ℤ◌, ◌-ℤ◌, ◌*ℤ◌, length, get_or}
+use Rattle.std.specs.Prelude.{drop}
 use Rattle.numbers.specs.Rounding.{nearest}
 use Rattle.numbers.specs.Chebyshev.{E}
 
@@ -36,7 +37,8 @@ u_of p H = nearest (pos scale *ℤ p) H
 -- b_(k+2)'
 unfoldable pub b_from : ℤ → List ℤ → ℤ × ℤ
 b_from u [] = (pos 0, pos 0)
-b_from u (c ∷ cs) = (c +ℤ nearest (u *ℤ (b_from u cs).0) (2 ^ 29) -ℤ (b_from u cs).1, (b_from u cs).0)
+b_from u (c ∷ cs) =
+    (c +ℤ nearest (u *ℤ (b_from u cs).0) (2 ^ 29) -ℤ (b_from u cs).1, (b_from u cs).0)
 
 -- b_k of the coefficients c_0, .., c_n
 unfoldable pub b_at : ℤ → List ℤ → ℕ → ℤ

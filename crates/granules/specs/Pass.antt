@@ -1,5 +1,6 @@
 -- The one pass over the granules: what it keeps, and what it asks.
-use Rattle.std.specs.Prelude.{◌≡◌, true, cond, ◌||◌, List, ℕ, ◌*◌, ◌+◌, ◌≤◌, ◌<◌, ltb, eqb, ℤ, length}
+use Rattle.std.specs.Prelude.{◌≡◌, true, cond, ◌||◌, List, ℕ, ◌*◌, ◌+◌, ◌≤◌, ◌<◌, ltb, eqb, ℤ}
+use Rattle.std.specs.Prelude.{length}
 use Rattle.numbers.specs.Tests.{rank, told}
 use Rattle.granule.specs.Bounds.{most_degree}
 use Rattle.granule.specs.Tests.{plain_sum, alternating_sum, is_joined}

@@ -1,7 +1,9 @@
 -- The tests of the coefficients, in their order. `granule g` is c_0..c_n of granule g.
-use Rattle.std.specs.Prelude.{Bool, true, List, [], ◌∷◌, ◌++◌, ℕ, zero, suc, ◌+◌, ℤ, nat_abs, length}
+use Rattle.std.specs.Prelude.{Bool, true, List, [], ◌∷◌, ◌++◌, ℕ, zero, suc, ◌+◌, ℤ, nat_abs}
+use Rattle.std.specs.Prelude.{length}
 use Rattle.numbers.specs.Tests.{Test, Rule, rule, along, over}
-use Rattle.granule.specs.Tests.{is_small, weight_of, is_light, plain_sum, alternating_sum, is_joined}
+use Rattle.granule.specs.Tests.{is_small, weight_of, is_light, plain_sum, alternating_sum}
+use Rattle.granule.specs.Tests.{is_joined}
 use Rattle.image.specs.declared.table.Table.{Table}
 
 -- of a granule by itself: 14 'a coefficient beyond 2^40 either way', 15 'weight above 2^40 or above

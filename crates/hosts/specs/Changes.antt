@@ -2,7 +2,8 @@
 -- table that was refused; else 0.'
 use Rattle.std.specs.Prelude.{◌≡◌, List, ℕ, ℤ, length}
 use Rattle.comparing.specs.declared.Compared.{Compared}
-use Rattle.comparing.specs.Answers.{compared_number, compared_place, compared_which, compared_entries}
+use Rattle.comparing.specs.Answers.{compared_number, compared_place, compared_which}
+use Rattle.comparing.specs.Answers.{compared_entries}
 use Rattle.comparing.specs.Comparing.{compared_of, compared_into}
 use Rattle.hosts.specs.declared.changes.ChangesAnswer.{ChangesAnswer}
 

@@ -1,6 +1,7 @@
 -- What a written UTC answers.
 use Rattle.written.specs.declared.UtcAnswer as written
-use Rattle.written.specs.Answers.{utc_answer_number, utc_answer_place, utc_answer_day, utc_answer_ticks}
+use Rattle.written.specs.Answers.{utc_answer_number, utc_answer_place, utc_answer_day}
+use Rattle.written.specs.Answers.{utc_answer_ticks}
 use Rattle.written.specs.Answers.{utc_answer_steps}
 use Rattle.hosts.specs.declared.leaps.UtcAnswer.{UtcAnswer}
 

@@ -1,5 +1,6 @@
-// What C links: the functions of `hosts`, each under its own name, with the same clauses. A crate is a
-// library or a static library, so that these stand apart. `include/colliedash.h` declares the same.
+// What C links: the functions of `hosts`, each under its own name, with the same clauses. A crate
+// is a library or a static library, so that these stand apart. `include/colliedash.h` declares the
+// same.
 #![tactic(auto)]
 
 ghost use Rattle.std.specs.Prelude.{◌≡◌, []};

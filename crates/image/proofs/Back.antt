@@ -71,7 +71,8 @@ thirds : (g : ℕ) → 3 * (1 + g / 3 - 1) + g % 3 ≡ g
 thirds g = omega arith
 
 -- byte u of coefficient m of granule g stands in its place
-coefficient_byte_lem : (t : Table) (c : List ℤ) (g m u : ℕ) → g < t.count → m ≤ t.degree → t.degree ≤ most_degree → u < 8
+coefficient_byte_lem : (t : Table) (c : List ℤ) (g m u : ℕ) → g < t.count → m ≤ t.degree → t.degree ≤ most_degree
+    → u < 8
     → image_byte t c (stored_at g m + u) ≡ byte_of (bits_of c (g * (t.degree + 1) + m)) u
 unfolding image_byte block_byte body_byte coefficient_byte
 coefficient_byte_lem t c g m u hg hm hn hu =

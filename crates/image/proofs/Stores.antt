@@ -72,7 +72,8 @@ module _ (b : List ℕ) (at x y : ℕ) (h : at + 512 ≤ length b) (ex : x ≡ c
             ∙ off l2 (at + 509) (at + 510) _ (omega arith)
             ∙ get_or-set_same l1 (at + 509) _ 0 (simp length-set (omega arith))
             ∙ ap (λ n. byte_of n 1) ex;
-        b0 = off l3 (at + 510) (at + 511) _ (omega arith) ∙ get_or-set_same l2 (at + 510) _ 0 (simp length-set (omega arith)) ∙ low y ∙ ap (λ n. byte_of n 0) ey;
+        b0 = off l3 (at + 510) (at + 511) _ (omega arith) ∙ get_or-set_same l2 (at + 510) _ 0 (simp length-set (omega arith)) ∙ low y
+            ∙ ap (λ n. byte_of n 0) ey;
         b1 = get_or-set_same l3 (at + 511) _ 0 (simp length-set (omega arith)) ∙ ap (λ n. byte_of n 1) ey;
       }
 

@@ -1,6 +1,7 @@
 -- 'Bounds: n 0..15, H from 10^9 to 2^50, G 1..360, S and S+GH valid epochs.' The numbers of n and H
 -- are the granule's, that of G stands in `Few`.
-use Rattle.std.specs.Prelude.{◌≡◌, Bool, true, ◌&&◌, ℕ, ◌+◌, ◌*◌, ◌≤◌, leb, ℤ, pos, ◌+ℤ◌, ◌*ℤ◌, ◌≤ℤ◌}
+use Rattle.std.specs.Prelude.{◌≡◌, Bool, true, ◌&&◌, ℕ, ◌+◌, ◌*◌, ◌≤◌, leb, ℤ, pos, ◌+ℤ◌, ◌*ℤ◌}
+use Rattle.std.specs.Prelude.{◌≤ℤ◌}
 use Rattle.std.specs.Int.Signed.{le_z}
 use Rattle.scales.specs.Tick.{is_valid}
 use Rattle.granule.specs.Bounds.{most_degree, shortest_length, longest_length}

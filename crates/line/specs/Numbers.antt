@@ -1,5 +1,6 @@
 -- A number as text: 'optional minus on each, 1 to 20 digits, each fitting signed 64 bits'.
-use Rattle.std.specs.Prelude.{Bool, true, false, cond, ◌&&◌, List, [], ◌∷◌, ℕ, ◌+◌, ◌*◌, ◌-◌, ◌^◌, leb, eqb, ℤ, pos, neg_ℤ, length}
+use Rattle.std.specs.Prelude.{Bool, true, false, cond, ◌&&◌, List, [], ◌∷◌, ℕ, ◌+◌, ◌*◌, ◌-◌, ◌^◌}
+use Rattle.std.specs.Prelude.{leb, eqb, ℤ, pos, neg_ℤ, length}
 use Rattle.std.proofs.Math.Option.{Option, some, none}
 use Rattle.std.specs.Int.Signed.{le_z, lt_z}
 use Rattle.numbers.specs.Signs.{signed}

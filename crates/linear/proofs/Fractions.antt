@@ -105,7 +105,8 @@ module _ (t : ℤ) (b q bias known : ℕ) (count : pos b ≡ t +ℤ pos bias) wh
       → pos 8 *ℤ (pos bary_d *ℤ (t +ℤ pos 65500)) ≡ pos 100000000000000000 *ℤ t +ℤ pos 6550000000000000000000
   tcb_exact = rep _ (λ a b. simp lin (omega arith))
 
-  early : (x : ℤ) → known ≡ 481 * bary_l - 65500 → x +ℤ pos q -ℤ pos known ≡ x +ℤ pos 65500 +ℤ pos q -ℤ pos (481 * bary_l)
+  early : (x : ℤ) → known ≡ 481 * bary_l - 65500 → x +ℤ pos q -ℤ pos known
+      ≡ x +ℤ pos 65500 +ℤ pos q -ℤ pos (481 * bary_l)
   early = rep _ (λ a b. simp lin (omega arith))
 
   further : (x : ℤ) → bias ≡ 65500 + 481 * bary_e → x +ℤ pos bias ≡ x +ℤ pos 65500 +ℤ pos (481 * bary_e)

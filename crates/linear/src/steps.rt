@@ -3,7 +3,8 @@
 // TT and TDB needs a table and stands elsewhere.
 ghost use Rattle.std.specs.Prelude.{◌≡◌, ◌≤◌, nat_abs};
 ghost use Rattle.scales.specs.Tick.{furthest};
-ghost use Rattle.scales.specs.Linear.{nearest_tick, gps_to_tai, tai_to_tt, tcg_to_tt, tcb_to_tdb, inverse};
+ghost use Rattle.scales.specs.Linear.{nearest_tick, gps_to_tai, tai_to_tt, tcg_to_tt, tcb_to_tdb};
+ghost use Rattle.scales.specs.Linear.{inverse};
 ghost use Rattle.scales.specs.Rows.{line_row, turned, line_step};
 
 use crate::drift::{biased, moved, tcb_gains, tcg_gains, tdb_loses, tt_loses};

@@ -81,7 +81,8 @@ read_at line (text ∷ more) (suc before) other h k =
     ∙ ap (line_read (get_or more before [])) (omega arith)
 
 -- the first line of an input is read as line 1, and each other as the next: line k as line k
-pub line_read_lem : (input : List ℕ) (before : ℕ) (other : Line) → before < length (lines_of input) → before < greatest_line
+pub line_read_lem : (input : List ℕ) (before : ℕ) (other : Line) → before < length (lines_of input)
+    → before < greatest_line
     → get_or (lines_read input) before other ≡ line_read (get_or (lines_of input) before []) (suc before)
 line_read_lem input before other h k =
     read_at 1 (lines_of input) before other h (omega arith)

@@ -79,7 +79,8 @@ unfolding tickline_of output_from judged_number judged_count judged_degree
 however_cut bytes coefficients pieces lent = in_pieces (judged bytes) coefficients 1 [] pieces ∙ by (judged bytes) refl lent
   where
     by : (table : Judged) → judged bytes ≡ table
-        → (judged_number table ≡ 0 → coefficients ≡ coefficients_stored bytes (judged_count table) (judged_degree table))
+        → (judged_number table ≡ 0 → coefficients
+        ≡ coefficients_stored bytes (judged_count table) (judged_degree table))
         → output_from 1 table coefficients (joined_pieces pieces)
         ≡ output_from 1 table (coefficients_in bytes) (joined_pieces pieces)
     by (J.Accepted table) is lent =
@@ -111,7 +112,8 @@ module _ (table : Judged) (coefficients : List ℤ) (one other : ℕ) where
 -- so the output is the same whatever the first line's number
 module _ (table : Judged) (coefficients : List ℤ) where
   lines_numbered : (one other : ℕ) (texts : List (List ℕ))
-      → printed_lines table coefficients (read_from one texts) ≡ printed_lines table coefficients (read_from other texts)
+      → printed_lines table coefficients (read_from one texts)
+      ≡ printed_lines table coefficients (read_from other texts)
   unfolding read_from printed_lines
   lines_numbered one other [] = refl
   lines_numbered one other (text ∷ more) =

@@ -117,7 +117,8 @@ some_whole [] e = never (rw nothing_plain at e)
 some_whole (byte ∷ more) e = rw e (one_line byte (whole_lines more))
 
 -- whole lines, and then any text
-pub lines_whole : (text more : List ℕ) → lines_of (whole_lines text ++ more) ≡ lines_of (whole_lines text) ++ lines_of more
+pub lines_whole : (text more : List ℕ) → lines_of (whole_lines text ++ more)
+    ≡ lines_of (whole_lines text) ++ lines_of more
 unfolding lines_of whole_lines
 lines_whole [] more = refl
 lines_whole (byte ∷ text) more = either (has_newline (byte ∷ text))
@@ -129,7 +130,8 @@ lines_whole (byte ∷ text) more = either (has_newline (byte ∷ text))
     (λ (h : has_newline (byte ∷ text) ≡ false). rw h)
 
 -- a line and its newline, and then any text
-pub lines_ended : (line more : List ℕ) → has_newline line ≡ false → lines_of (line ++ (10 ∷ more)) ≡ line ∷ lines_of more
+pub lines_ended : (line more : List ℕ) → has_newline line ≡ false → lines_of (line ++ (10 ∷ more))
+    ≡ line ∷ lines_of more
 unfolding lines_of
 lines_ended [] more h = refl
 lines_ended (byte ∷ line) more h = let p = plain_both byte line h in rw (p.0, lines_ended line more p.1)

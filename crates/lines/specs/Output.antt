@@ -1,7 +1,8 @@
 -- What the program prints: '`tickline` reads lines of standard input, `from to tick`, ..; the last
 -- newline may be missing. .. It prints `to tick steps` .. or `refused N`, one line each, no
 -- header.'
-use Rattle.std.specs.Prelude.{Bool, false, cond, ◌||◌, List, [], ◌∷◌, ◌++◌, ℕ, suc, eqb, ltb, ℤ, pos, take}
+use Rattle.std.specs.Prelude.{Bool, false, cond, ◌||◌, List, [], ◌∷◌, ◌++◌, ℕ, suc, eqb, ltb, ℤ}
+use Rattle.std.specs.Prelude.{pos, take}
 use Rattle.scales.specs.declared.answer.Answer.{Answer}
 use Rattle.scales.specs.declared.answer.Answer.TheVariants as A
 use Rattle.scales.specs.declared.scale.Purpose.TheVariants as P
@@ -19,7 +20,8 @@ use Rattle.lines.specs.declared.Answered.{Answered}
 -- after it is a line, nothing after it is none
 unfoldable pub lines_of : List ℕ → List (List ℕ)
 lines_of [] = []
-lines_of (byte ∷ more) = cond (eqb byte 10) ([] ∷ lines_of more) (starting_with byte (lines_of more))
+lines_of (byte ∷ more) =
+    cond (eqb byte 10) ([] ∷ lines_of more) (starting_with byte (lines_of more))
 
 -- ---- the lines' numbers: '9: text line not understood', place 'line, from 1'
 -- the greatest number of a line: a place has 64 bits
@@ -107,7 +109,8 @@ unfoldable pub output_in_pieces : ℕ → Judged → List ℤ → List ℕ → L
 output_in_pieces line table coefficients kept [] = output_from line table coefficients kept
 output_in_pieces line table coefficients kept (piece ∷ more) =
     output_from line table coefficients (whole_lines (kept ++ piece))
-    ++ output_in_pieces (line_after line (lines_of (whole_lines (kept ++ piece)))) table coefficients
+    ++ output_in_pieces (line_after line (lines_of (whole_lines (kept ++ piece)))) table
+    coefficients
     (kept_of (kept ++ piece)) more
 
 -- the pieces, one after the other

@@ -1,6 +1,7 @@
 -- A list of tests, and what it tells: 'each test over all blocks before the next', each naming the
 -- lowest place.
-use Rattle.std.specs.Prelude.{◌≡◌, Bool, cond, not, ◌||◌, List, [], ◌∷◌, ◌++◌, ℕ, zero, suc, ◌≤◌, ◌<◌, ltb, eqb}
+use Rattle.std.specs.Prelude.{◌≡◌, Bool, cond, not, ◌||◌, List, [], ◌∷◌, ◌++◌, ℕ, zero, suc, ◌≤◌}
+use Rattle.std.specs.Prelude.{◌<◌, ltb, eqb}
 use Rattle.numbers.specs.Lowest.{lowest}
 
 -- a test: its number, how many places it looks at, and which of them pass

@@ -21,7 +21,8 @@ pub record Opened (bytes : List ℕ) (table : Table) : Type 0 where
 pub record Taken (bytes : List ℕ) (table : Table) (room : List ℤ) : Type 0 where
   pub long : how_many table ≤ length room
   pub front : take (how_many table) room ≡ coefficients_stored bytes table.count table.degree
-  pub behind : drop (how_many table) room ≡ drop (how_many table) (replicate most_coefficients (pos 0))
+  pub behind : drop (how_many table) room
+      ≡ drop (how_many table) (replicate most_coefficients (pos 0))
 
 -- the coefficients of bytes that were judged, if they were accepted
 pub record Lent (table : Judged) (coefficients : List ℤ) : Type 0 where

@@ -1,6 +1,7 @@
 -- What is printed: '`to tick steps` (`to` is the code asked, in plain decimals, 0 as 0) or `refused
 -- N`, one line each, no header'.
-use Rattle.std.specs.Prelude.{cond, List, [], ◌∷◌, ◌++◌, ℕ, zero, suc, ◌+◌, ◌/◌, ◌%◌, ltb, ℤ, pos, negsuc}
+use Rattle.std.specs.Prelude.{cond, List, [], ◌∷◌, ◌++◌, ℕ, zero, suc, ◌+◌, ◌/◌, ◌%◌, ltb, ℤ, pos}
+use Rattle.std.specs.Prelude.{negsuc}
 use Rattle.scales.specs.declared.answer.Answer.{Answer}
 use Rattle.scales.specs.declared.answer.Answer.TheVariants.{Converted, Refused}
 

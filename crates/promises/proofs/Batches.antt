@@ -40,7 +40,8 @@ use Rattle.scales.specs.declared.scale.Purpose.TheVariants as P
 
 -- what a number other than 0 means
 refused_is : (batched : Batched) → 0 < batched_number batched
-    → batched ≡ Refused (record { number = batched_number batched; place = batched_place batched }) (batched_index batched)
+    → batched ≡ Refused (record { number = batched_number batched; place = batched_place batched })
+    (batched_index batched)
 unfolding batched_number batched_place batched_index
 refused_is (Converted many) h = let no : ⊥ = omega arith in absurd no
 refused_is (Refused refusal index) h = refl
@@ -123,7 +124,8 @@ batch_of_one from to tick bytes =
 
 -- ---- between two ticks that a conversion accepts it accepts every tick
 pub accepted_between : (from to : ℕ) (bytes : List ℕ) (t u v : ℤ)
-    → answer_number (convert_of from to (Ticks t) [] bytes) ≡ 0 → answer_number (convert_of from to (Ticks v) [] bytes) ≡ 0
+    → answer_number (convert_of from to (Ticks t) [] bytes) ≡ 0
+    → answer_number (convert_of from to (Ticks v) [] bytes) ≡ 0
     → t ≤ℤ u → u ≤ℤ v → answer_number (convert_of from to (Ticks u) [] bytes) ≡ 0
 unfolding convert_into convert_read read_of answer_number
 accepted_between from to bytes t u v early late l m =

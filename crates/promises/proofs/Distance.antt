@@ -39,7 +39,8 @@ module _ (bytes : List ℕ) (t : ℤ) (u : Epoch) where
   abbrev Near : Type 0
   Near = 64 * nat_abs (pos (denominator_in bytes) *ℤ u.tick -ℤ (pos (denominator_in bytes) *ℤ t -ℤ exact_sum_in bytes t)) ≤ 33 * denominator_in bytes
 
-  near : (judgement : Judged) → judged bytes ≡ judgement → to_tdb (held_by judgement) (coefficients_in bytes) t ≡ Reached u
+  near : (judgement : Judged) → judged bytes ≡ judgement → to_tdb (held_by judgement) (coefficients_in bytes) t
+      ≡ Reached u
       → Near
   near (Refused refusal) j e = nowhere e
   near (Accepted of) j e =

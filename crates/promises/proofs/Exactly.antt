@@ -81,7 +81,8 @@ batch_exactly from to ticks many bytes =
 
 -- ---- of a reading by itself
 pub reading_exactly : (leaps : List ℤ) (reading : Reading)
-    → ToldExactly (reading_tests leaps reading) (read_number (read_of leaps reading)) (read_place (read_of leaps reading))
+    → ToldExactly (reading_tests leaps reading) (read_number (read_of leaps reading))
+    (read_place (read_of leaps reading))
 unfolding read_number read_place verdict
 reading_exactly leaps reading =
     told_exactly (reading_tests leaps reading) _ _ (reading_numbered leaps reading)
@@ -136,7 +137,8 @@ pub batch_converted : (from to : ℕ) (ticks : List ℤ) (many : ℕ) (bytes : L
 unfolding batched_number batched_steps
 batch_converted from to ticks many bytes zero = by (batch_of from to ticks many bytes) refl
   where
-    by : (batched : Batched) → batch_of from to ticks many bytes ≡ batched → batched ≡ B.Converted (batched_steps batched)
+    by : (batched : Batched) → batch_of from to ticks many bytes ≡ batched → batched
+        ≡ B.Converted (batched_steps batched)
     by (B.Converted many) e = refl
     by (B.Refused refusal index) e =
         let tests = batch_tests from to ticks many bytes in

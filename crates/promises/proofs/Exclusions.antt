@@ -118,7 +118,8 @@ unfolding tried_of answer_tick batch_into batched_number batched_steps
 batch_of_two from to f t x y =
     let one = converts first first_moment from to f t in
     let two = converts last last_moment from to f t in
-    let accepted : batch_of from to (first (named from) ∷ last (named from) ∷ []) 2 known_bytes ≡ Batched.Converted (steps (named from) (named to)) = batch_tried
+    let accepted : batch_of from to (first (named from) ∷ last (named from) ∷ []) 2 known_bytes ≡ Batched.Converted (steps (named from) (named to)) =
+    batch_tried
     from to known_bytes _ 2 refl (omega arith)
     ∙ rw (one, two) in
     (rw accepted, rw accepted, rw (accepted, one, two))

@@ -70,9 +70,11 @@ known_held =
     sym (is_new _ known_table _ _ r.0) ∙ r.1
 
 -- TDB at the first tick, at the last and at the one before it
-ends : (tdb_at known_table known_coefficients 0 ≡ pos 1) × (tdb_at known_table known_coefficients 999999999 ≡ pos 999999998)
+ends : (tdb_at known_table known_coefficients 0 ≡ pos 1)
+    × (tdb_at known_table known_coefficients 999999999 ≡ pos 999999998)
     × (tdb_at known_table known_coefficients 1000000000 ≡ pos 999999999)
-unfolding known_table known_coefficients tdb_at tdb_of tick_at place_of table_delay granule_in granule_of place_in delay_at delay_of value_at v_of b_at b_from u_of p_of nearest
+unfolding known_table known_coefficients tdb_at tdb_of tick_at place_of table_delay granule_in granule_of place_in delay_at delay_of value_at v_of b_at b_from
+    u_of p_of nearest
     floor_div
 ends = (refl, refl, refl)
 

@@ -67,7 +67,8 @@ module _ (text : List ℕ) (line : ℕ) where
           absurd no
 
 -- ---- 'place: line, from 1': line k of an input, where it is not understood, is 9 with place k
-pub place_of_9 : (input : List ℕ) (before : ℕ) (other : Line) → before < length (lines_of input) → before < greatest_line
+pub place_of_9 : (input : List ℕ) (before : ℕ) (other : Line) → before < length (lines_of input)
+    → before < greatest_line
     → let line = get_or (lines_read input) before other in
     0 < line_number line → (line_number line ≡ 9) × (line_place line ≡ suc before)
 place_of_9 input before other h k =
@@ -98,7 +99,8 @@ module _ (table : Judged) (coefficients : List ℤ) (text : List ℕ) (line : �
   line_not_understood h = by (read text line) refl h
     where
       by : (is : Line) → line_read text line ≡ is → 0 < line_number is
-          → (answer_number (answer_of table coefficients is) ≡ 9) × (answer_place (answer_of table coefficients is) ≡ line)
+          → (answer_number (answer_of table coefficients is) ≡ 9)
+          × (answer_place (answer_of table coefficients is) ≡ line)
       by (Numbers from to tick) e h = let no : ⊥ = omega arith in absurd no
       by (Refused refusal) e h = rw (numbering.not_understood_lem text line refusal e) (refl, refl)
 

@@ -238,7 +238,8 @@ module _ {A : Type 0} (refused : ℕ → ℕ → ℕ → A) (last : A) where
   -- all entries from an index on
   entries_told : (from to : ℕ) (bytes : List ℕ) (many index : ℕ) (ticks : List ℤ)
       → verdicts refused last (entry_tests from to bytes index ticks)
-      ≡ of_batched (tried_of (entry_of (named from) (named to) (table_in bytes) (coefficients_in bytes)) many index ticks)
+      ≡ of_batched (tried_of (entry_of (named from) (named to) (table_in bytes) (coefficients_in bytes)) many index
+      ticks)
   unfolding verdicts tried_of read_of
   entries_told from to bytes many index [] = refl
   entries_told from to bytes many index (tick ∷ more) =

@@ -167,7 +167,8 @@ NotLater day ticks other more = EarlierUtc day ticks other more ⊎ ((day ≡ ot
 pub written_in_order : (from to : ℕ) (leaps : List ℤ) (bytes : List ℕ) (early late : Reading)
     → let one = write_utc_of from to early leaps bytes in
     let other = write_utc_of from to late leaps bytes in
-    utc_answer_number one ≡ 0 → utc_answer_number other ≡ 0 → read_tick (read_of leaps early) ≤ℤ read_tick (read_of leaps late)
+    utc_answer_number one ≡ 0 → utc_answer_number other ≡ 0
+    → read_tick (read_of leaps early) ≤ℤ read_tick (read_of leaps late)
     → NotLater (utc_answer_day one) (utc_answer_ticks one) (utc_answer_day other) (utc_answer_ticks other)
 written_in_order from to leaps bytes early late a b l =
     let x = written_of from to early leaps bytes a in
@@ -228,7 +229,8 @@ module _ (leaps : List ℤ) (bytes : List ℕ) where
       exact
 
   -- a reading that is accepted is that tick
-  read_tick_lem : (tick day ticks : ℤ) → Accepts (utc_read leaps day ticks) tick → utc_read leaps day ticks ≡ R.Tick tick
+  read_tick_lem : (tick day ticks : ℤ) → Accepts (utc_read leaps day ticks) tick → utc_read leaps day ticks
+      ≡ R.Tick tick
   unfolding utc_read
   read_tick_lem tick day ticks a =
       let r = read_as leaps day ticks a.0 in

@@ -109,7 +109,8 @@ module _ (writes : Purpose) (from to : ℕ) (reading : Reading) (leaps : List �
   by_table o (J.Refused r) j = table_refused o r j refl
 
   by_path : (over : Bool) → crosses (named from) (named to) ≡ over
-      → Course writes from to reading leaps bytes (answering (checks true true true true over (judged bytes)) walk_of_lem)
+      → Course writes from to reading leaps bytes
+      (answering (checks true true true true over (judged bytes)) walk_of_lem)
   unfolding walk_of_lem checks
   by_path true o = by_table o (judged bytes) refl
   by_path false o = walking refl

@@ -13,7 +13,8 @@ use Rattle.promises.specs.Words.{Gives}
 
 -- ---- the table of P10 and P11: 'n=1, S=0, H=10^9, G=1, c_0=0, c_1=65536'
 unfoldable pub known_table : Table
-known_table = record { start = record { 0 = pos 0 }; length = pos 1000000000; count = 1; degree = 1 }
+known_table =
+    record { start = record { 0 = pos 0 }; length = pos 1000000000; count = 1; degree = 1 }
 
 unfoldable pub known_coefficients : List ℤ
 known_coefficients = pos 0 ∷ pos 65536 ∷ []

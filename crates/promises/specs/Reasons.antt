@@ -1,5 +1,6 @@
 -- The words in which the promises speak of a refusal's number and place.
-use Rattle.std.specs.Prelude.{◌≡◌, Bool, true, false, cond, not, ◌||◌, List, [], ◌∷◌, ◌++◌, ℕ, suc, eqb, ℤ, pos}
+use Rattle.std.specs.Prelude.{◌≡◌, Bool, true, false, cond, not, ◌||◌, List, [], ◌∷◌, ◌++◌, ℕ, suc}
+use Rattle.std.specs.Prelude.{eqb, ℤ, pos}
 use Rattle.std.specs.Float.{fin}
 use Rattle.numbers.specs.Tests.{numbers_of}
 use Rattle.scales.specs.declared.answer.Answer.{Answer}

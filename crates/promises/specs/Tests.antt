@@ -104,7 +104,8 @@ conversion_tests from to reading leaps bytes = tests_into P.Reading from to read
 abbrev pub written_tests : ℕ → ℕ → Reading → List ℤ → List ℕ → List Test
 written_tests from to reading leaps bytes =
     tests_into P.Utc from to reading leaps bytes
-    ++ only 5 0 (is_writable leaps (answer_tick (convert_into P.Utc from to reading leaps bytes))) ∷ []
+    ++ only 5 0 (is_writable leaps (answer_tick (convert_into P.Utc from to reading leaps bytes)))
+    ∷ []
 
 -- 'All are tried first; the earliest refusal is the batch's, with its index'
 abbrev pub entry_tests : ℕ → ℕ → List ℕ → ℕ → List ℤ → List (ℕ × List Test)

@@ -18,7 +18,8 @@ use Rattle.turns.specs.Buffers.{Front}
 pub front_nothing : (text : List ℕ) (line : ℕ) → 1 ≤ line → Front text 0 line
 front_nothing text line counted = record { few = omega arith; plain = nothing_plain; counted = counted }
 
-pub front_kept : {text text' : List ℕ} {next first line : ℕ} (whole : List ℕ) → TextPut text 0 (kept_of whole) text' next
+pub front_kept : {text text' : List ℕ} {next first line : ℕ} (whole : List ℕ)
+    → TextPut text 0 (kept_of whole) text' next
     → 1 ≤ first
     → line ≡ line_after first (lines_of (whole_lines whole)) → Front text' next line
 unfolding kept_of

@@ -50,7 +50,8 @@ unfolding utc_written is_writable utc_of utc_ticks utc_written_number utc_writte
 written_as leaps tick e = by (is_writable leaps tick) refl e
   where
     by : (writable : Bool) → is_writable leaps tick ≡ writable
-        → utc_written_number (cond writable (W.Utc (utc_of leaps tick)) (W.Refused (record { number = 5; place = 0 }))) ≡ 0
+        → utc_written_number
+        (cond writable (W.Utc (utc_of leaps tick)) (W.Refused (record { number = 5; place = 0 }))) ≡ 0
         → UtcWrittenAs leaps tick
     by true w n = record { begun = le_yes _ _ w; day = rw w; ticks = rw w }
     by false w n = let no : ⊥ = omega arith in absurd no

@@ -18,7 +18,8 @@ use Rattle.utc.proofs.Within.{Within, forth, is_reading_lem, reading, reading_wi
 -- the one UTC of a tick: the written one is a right reading, and no other has that tick
 pub record OneUtc (leaps : List ℤ) (tick : ℤ) : Type 0 where
   pub number : utc_written_number (utc_written leaps tick) ≡ 0
-  pub right : is_reading leaps (utc_written_day (utc_written leaps tick)) (utc_written_ticks (utc_written leaps tick)) ≡ true
+  pub right : is_reading leaps (utc_written_day (utc_written leaps tick)) (utc_written_ticks (utc_written leaps tick))
+      ≡ true
   pub tai : tai_of leaps (utc_written_day (utc_written leaps tick)) (utc_written_ticks (utc_written leaps tick)) ≡ tick
   pub only : (day ticks : ℤ) → is_reading leaps day ticks ≡ true → tai_of leaps day ticks ≡ tick
       → (utc_written_day (utc_written leaps tick) ≡ day) × (utc_written_ticks (utc_written leaps tick) ≡ ticks)
@@ -59,7 +60,8 @@ module _ (leaps : List ℤ) (e : is_list_right leaps ≡ true) where
 
   -- and TAI to UTC to TAI, of a valid tick that is accepted
   pub tai_utc_tai : (tick : ℤ) → is_valid tick ≡ true → utc_written_number (utc_written leaps tick) ≡ 0
-      → Accepts (utc_read leaps (utc_written_day (utc_written leaps tick)) (utc_written_ticks (utc_written leaps tick))) tick
+      → Accepts (utc_read leaps (utc_written_day (utc_written leaps tick))
+      (utc_written_ticks (utc_written leaps tick))) tick
   tai_utc_tai tick v n =
       let o = exactly_one tick (written_as leaps tick n).begun in
       let d = utc_written_day (utc_written leaps tick) in

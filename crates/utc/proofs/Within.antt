@@ -43,7 +43,8 @@ pub reading_size : {leaps : List ℤ} {day ticks : ℤ} → Reading leaps day ti
 unfolding length_of
 reading_size {leaps} {day} {ticks} h =
     size ticks (length_of leaps day) h.low h.high
-    (length_cases (λ z. z ≤ℤ pos (2 * day_ticks)) (seconds_on leaps day) (seconds_on leaps (day +ℤ pos 1)) (λ _. le_z_yes tt) (λ _. le_z_yes tt) (λ _ _. le_z_yes tt))
+    (length_cases (λ z. z ≤ℤ pos (2 * day_ticks)) (seconds_on leaps day) (seconds_on leaps (day +ℤ pos 1)) (λ _. le_z_yes tt) (λ _. le_z_yes tt)
+    (λ _ _. le_z_yes tt))
   where
     size : (k l : ℤ) → pos 0 ≤ℤ k → k <ℤ l → l ≤ℤ pos (2 * day_ticks) → nat_abs k ≤ 2 * day_ticks
     size = rep₂ _ (λ a b c d. simp lin (omega arith))

@@ -1,6 +1,7 @@
 -- What the inner functions ask of their callers, each by name, and the day with which writing
 -- begins.
-use Rattle.std.specs.Prelude.{◌≡◌, true, List, ℕ, ◌+◌, ◌*◌, ◌≤◌, ◌<◌, ℤ, pos, neg_ℤ, nat_abs, ◌+ℤ◌, ◌-ℤ◌, ◌≤ℤ◌}
+use Rattle.std.specs.Prelude.{◌≡◌, true, List, ℕ, ◌+◌, ◌*◌, ◌≤◌, ◌<◌, ℤ, pos, neg_ℤ, nat_abs, ◌+ℤ◌}
+use Rattle.std.specs.Prelude.{◌-ℤ◌, ◌≤ℤ◌}
 use Rattle.numbers.specs.Rounding.{floor_div}
 use Rattle.scales.specs.Tick.{furthest, is_valid}
 use Rattle.utc.specs.Leaps.{entries, seconds, is_list_right, list_day}

@@ -1,6 +1,7 @@
 -- 'A lent list of up to 64 pairs (first day, TAI−UTC in seconds)', lent flat: first day, seconds,
 -- first day, seconds, and so on; and its rule.
-use Rattle.std.specs.Prelude.{Bool, ◌&&◌, List, ℕ, suc, ◌+◌, ◌*◌, ◌-◌, ◌/◌, eqb, leb, ℤ, pos, length, get_or}
+use Rattle.std.specs.Prelude.{Bool, ◌&&◌, List, ℕ, suc, ◌+◌, ◌*◌, ◌-◌, ◌/◌, eqb, leb, ℤ, pos}
+use Rattle.std.specs.Prelude.{length, get_or}
 use Rattle.std.specs.Int.Signed.{lt_z}
 use Rattle.numbers.specs.Lowest.{every}
 use Rattle.numbers.specs.Signs.{gap}

@@ -140,7 +140,8 @@ module _ (cs : List ℤ) where
   tt_order (K.Table T) t v u w e f l =
       rw (← same_tick (tt_reached T cs t u e).is, ← same_tick (tt_reached T cs v w f).is) (order_back T cs t v l)
 
-  tt_within : (kept : Kept) (t u v : ℤ) (x w : Epoch) → to_tt kept cs t ≡ Reached x → to_tt kept cs v ≡ Reached w → t ≤ℤ u
+  tt_within : (kept : Kept) (t u v : ℤ) (x w : Epoch) → to_tt kept cs t ≡ Reached x → to_tt kept cs v ≡ Reached w
+      → t ≤ℤ u
       → u ≤ℤ v → Comes (to_tt kept cs u)
   tt_within K.Nothing t u v x w e f l m = nowhere e
   tt_within (K.Table T) t u v x w e f l m =

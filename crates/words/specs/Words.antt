@@ -13,11 +13,13 @@ pair_at b at = get_or b at 0 + 256 * get_or b (at + 1) 0
 
 abbrev pub quad_at : List ℕ → ℕ → ℕ
 quad_at b at =
-    get_or b at 0 + 256 * get_or b (at + 1) 0 + 65536 * get_or b (at + 2) 0 + 16777216 * get_or b (at + 3) 0
+    get_or b at 0 + 256 * get_or b (at + 1) 0 + 65536 * get_or b (at + 2) 0 + 16777216 * get_or b
+    (at + 3) 0
 
 abbrev pub word_at : List ℕ → ℕ → ℕ
 word_at b at =
-    get_or b at 0 + 256 * get_or b (at + 1) 0 + 65536 * get_or b (at + 2) 0 + 16777216 * get_or b (at + 3) 0
+    get_or b at 0 + 256 * get_or b (at + 1) 0 + 65536 * get_or b (at + 2) 0 + 16777216 * get_or b
+    (at + 3) 0
     + 4294967296 * get_or b (at + 4) 0 + 1099511627776 * get_or b (at + 5) 0
     + 281474976710656 * get_or b (at + 6) 0 + 72057594037927936 * get_or b (at + 7) 0
 

@@ -21,13 +21,13 @@ offset_bounds-coefficients-k c = omega arith
 pub overflow_sub-sum : goal.overflow_sub-sum
 overflow_sub-sum c =
     (sum_turns alternating_sum ◌-ℤ◌ alternating_joins c.args.coefficients.now c.loop-k.k c.loop-k.sum.0 c.requires
-        c.loop-k-test.true c.loop-k.invariant.0 (search rules) c.loop-k.invariant.1).0
+    c.loop-k-test.true c.loop-k.invariant.0 (search rules) c.loop-k.invariant.1).0
 
 pub loop-k-preserved : goal.loop-k-preserved
 loop-k-preserved c = (
   omega arith,
   (sum_turns alternating_sum ◌-ℤ◌ alternating_joins c.args.coefficients.now c.loop-k.k c.loop-k.sum.0 c.requires
-        c.loop-k-test.true c.loop-k.invariant.0 (search rules) c.loop-k.invariant.1).1,
+      c.loop-k-test.true c.loop-k.invariant.0 (search rules) c.loop-k.invariant.1).1,
 )
 
 pub returns : goal.returns

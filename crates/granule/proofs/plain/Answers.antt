@@ -21,13 +21,13 @@ offset_bounds-coefficients-k c = omega arith
 pub overflow_add-sum : goal.overflow_add-sum
 overflow_add-sum c =
     (sum_turns plain_sum ◌+ℤ◌ plain_joins c.args.coefficients.now c.loop-k.k c.loop-k.sum.0 c.requires
-        c.loop-k-test.true c.loop-k.invariant.0 (search rules) c.loop-k.invariant.1).0
+    c.loop-k-test.true c.loop-k.invariant.0 (search rules) c.loop-k.invariant.1).0
 
 pub loop-k-preserved : goal.loop-k-preserved
 loop-k-preserved c = (
   omega arith,
   (sum_turns plain_sum ◌+ℤ◌ plain_joins c.args.coefficients.now c.loop-k.k c.loop-k.sum.0 c.requires
-        c.loop-k-test.true c.loop-k.invariant.0 (search rules) c.loop-k.invariant.1).1,
+      c.loop-k-test.true c.loop-k.invariant.0 (search rules) c.loop-k.invariant.1).1,
 )
 
 pub returns : goal.returns

@@ -144,9 +144,9 @@ loop-i-preserved c =
     let room = c.requires.room in
     let more = c.loop-i-test.true in
     elim c.if-text-i-eq10.branch [
-      then-text-i-eq10 w ↦ rw (w.out-is, w.start-is, w.end-is, w.line-is)
+      | then-text-i-eq10 w ↦ rw (w.out-is, w.start-is, w.end-is, w.line-is)
           (ended p room more w.if-text-i-eq10.true w.answer_line-end.ensures w.next_line-line.ensures)
-    | else-text-i-eq10 w ↦ rw (w.out-is, w.start-is, w.end-is, w.line-is) (on p room more w.if-text-i-eq10.false)
+      | else-text-i-eq10 w ↦ rw (w.out-is, w.start-is, w.end-is, w.line-is) (on p room more w.if-text-i-eq10.false)
     ]
 
 pub shape_of-out : goal.shape_of-out
