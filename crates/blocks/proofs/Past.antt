@@ -13,18 +13,18 @@ use Rattle.numbers.specs.Lowest.{lowest}
 use Rattle.numbers.specs.Tests.{Test, test, single}
 use Rattle.numbers.proofs.Flags.{both}
 use Rattle.numbers.proofs.Places.{all_pass}
-use Rattle.numbers.proofs.Verdicts.{stops, goes, stop, go}
+use Rattle.numbers.proofs.Verdicts.{stops, goes, stop, go, one_stop, one_go}
 use Rattle.words.specs.Words.{block, most_blocks}
 use Rattle.words.specs.Check.{is_checked}
 use Rattle.form.specs.Form.{blocks_of, is_free, fixed_byte, is_formed}
 use Rattle.form.specs.Asked.{Search}
 use Rattle.image.specs.Bounds.{is_bounded, Bounded}
-use Rattle.image.specs.Image.{granule_stored}
+use Rattle.image.specs.Image.{granule_stored, table_of}
 use Rattle.image.specs.declared.table.Table.{Table}
 use Rattle.granules.specs.Tests.{granule_tests}
 use Rattle.blocks.specs.declared.answer.Judged.TheVariants.{Accepted}
 use Rattle.blocks.specs.Answers.{judged_refused}
-use Rattle.blocks.specs.Judging.{judged_by, is_whole, is_formed_in, table_tests}
+use Rattle.blocks.specs.Judging.{judged_by, is_whole, is_formed_in, table_tests, judged}
 
 -- ---- bytes in whole blocks
 pub record Whole (length : ℕ) : Type 0 where
@@ -143,3 +143,12 @@ search_for b t w o d f =
           let y : k ≡ 0 = omega arith in
           subst (λ (i : ℕ). is_formed_in t b i ≡ true) (sym y) (sym (first_form t.count t.degree (block b 0)) ∙ f);
     }
+
+-- ---- refusal 12 of block 0, by the code's tests alone
+pub unformed_first : (b : List ℕ) → is_whole (length b) ≡ true
+    → length b / 512 ≤ lowest (λ k. is_checked (block b k)) (length b / 512)
+    → lowest (λ k. is_formed 0 0 k (block b k)) 1 < 1 → judged_refused 12 0 ≡ judged b
+unfolding judged
+unformed_first b w k h =
+    let t = table_of b in
+    refused12_first b t (past11 b t (past10 b t w) _ refl k) (one_stop (λ k. is_formed 0 0 k (block b k)) _ refl h)

@@ -22,6 +22,7 @@ fn whole(length: usize) -> bool
 
 // The table's numbers, or the first of refusals 10, 11, 12 (block 0), 13, 12 (others), 14, 15, 16,
 // 'each test over all blocks before the next'.
+#[tactic(auto, using(crate::proofs::Past::unformed_first))]
 pub fn judge(bytes: &[u8]) -> Judged
     ensures { result ≡ judged bytes.now }
 {

@@ -17,17 +17,7 @@ use mir.Val.{to_z, of_z}
 use mir.ValLaws.{to_z-of_z}
 use native.Mathlib.Omega.{arith}
 use Rattle.granules.proofs.test_listed.Goals as goal
-use Rattle.granules.proofs.test_listed.Goals.{After-struct_told-1, In-loop-g}
-
-length_back : (c : After-struct_told-1)
-    → to_z w64 (of_z w64 c.args.table.length)
-    ≡ c.args.table.length
-length_back c = to_z-of_z w64 _ (record { sfits = c.type_inv.table.1.0.1 })
-
-same_length : (c : After-struct_told-1)
-    → nat_abs (to_z w64 (of_z w64 c.args.table.length))
-    ≡ nat_abs c.args.table.length
-same_length c = ap nat_abs (length_back c)
+use Rattle.granules.proofs.test_listed.Goals.{In-loop-g}
 
 -- the part of the list that is the granule's own
 own : (l : List ℤ) (n g : ℕ) → take (g * (n + 1) + (n + 1) - g * (n + 1)) (drop (g * (n + 1)) l) ≡ granule_in l n g
@@ -54,7 +44,7 @@ pub overflow_add-width : goal.overflow_add-width
 overflow_add-width c = omega (arith, c.requires.bounds.few.degree)
 
 pub overflow_cast-length : goal.overflow_cast-length
-overflow_cast-length c = rw (length_back c) (as_natural c.args.table c.requires.bounds)
+overflow_cast-length c = rw (to_z-of_z w64 c.args.table.length (search rules)) (as_natural c.args.table c.requires.bounds)
 
 pub loop-g-init : goal.loop-g-init
 loop-g-init c = (zero-le, scanned_none _ _ _ refl)
@@ -91,7 +81,7 @@ pub returns-in-Lowest : goal.returns-in-Lowest
 unfolding tested_listed
 returns-in-Lowest c =
     scanned_lowest _ _ c.loop-g.g c.loop-g.scan _ (alike_same (own c.args.coefficients.now c.args.table.degree c.loop-g.g))
-    c.loop-g.invariant.1 c.args.table (same_length (goal.at.returns-in-Lowest c).After-struct_told-1) c.loop-g-test.true (sym c.look_at.ensures ∙ c.in-Lowest.is) _
+    c.loop-g.invariant.1 c.args.table (ap nat_abs (to_z-of_z w64 c.args.table.length (search rules))) c.loop-g-test.true (sym c.look_at.ensures ∙ c.in-Lowest.is) _
     c.told.ensures
 
 pub loop-g-smaller : goal.loop-g-smaller
@@ -109,4 +99,4 @@ unfolding tested_listed
 returns c =
     let t = c.args.table in
     let e : c.loop-g.g ≡ t.count = omega arith in
-    scanned_all _ t _ c.loop-g.scan (same_length (goal.at.returns c).After-struct_told-1) (rw e at c.loop-g.invariant.1) _ c.told-2.ensures
+    scanned_all _ t _ c.loop-g.scan (ap nat_abs (to_z-of_z w64 c.args.table.length (search rules))) (rw e at c.loop-g.invariant.1) _ c.told-2.ensures

@@ -16,17 +16,7 @@ use mir.ValLaws.{to_z-of_z}
 use native.Mathlib.Nat.{le_of_eq}
 use native.Mathlib.Omega.{arith}
 use Rattle.granules.proofs.test_stored.Goals as goal
-use Rattle.granules.proofs.test_stored.Goals.{After-stored-all, After-struct_told-1}
-
-length_back : (c : After-struct_told-1)
-    → to_z w64 (of_z w64 c.args.table.length)
-    ≡ c.args.table.length
-length_back c = to_z-of_z w64 _ (record { sfits = c.type_inv.table.1.0.1 })
-
-same_length : (c : After-struct_told-1)
-    → nat_abs (to_z w64 (of_z w64 c.args.table.length))
-    ≡ nat_abs c.args.table.length
-same_length c = ap nat_abs (length_back c)
+use Rattle.granules.proofs.test_stored.Goals.{After-stored-all}
 
 -- the sixteen pass as the granule's own do
 own : (c : After-stored-all) → Alike c.stored-all.result
@@ -38,7 +28,7 @@ sixteen : (c : After-stored-all) → length c.stored-all.result ≡ 16
 sixteen c = ap length c.stored-all.ensures ∙ stored_length c.args.bytes.now c.loop-g.g
 
 pub overflow_cast-length : goal.overflow_cast-length
-overflow_cast-length c = rw (length_back c) (as_natural c.args.table c.requires.bounds)
+overflow_cast-length c = rw (to_z-of_z w64 c.args.table.length (search rules)) (as_natural c.args.table c.requires.bounds)
 
 pub loop-g-init : goal.loop-g-init
 loop-g-init c = (zero-le, scanned_none _ _ _ refl)
@@ -59,7 +49,7 @@ look_at-requires c = record { short = le_of_eq (sixteen (goal.at.look_at-require
 pub returns-in-Lowest : goal.returns-in-Lowest
 unfolding tested_stored
 returns-in-Lowest c =
-    scanned_lowest _ _ c.loop-g.g c.loop-g.scan _ (own (goal.at.returns-in-Lowest c).After-stored-all) c.loop-g.invariant.1 c.args.table (same_length (goal.at.returns-in-Lowest c).After-struct_told-1)
+    scanned_lowest _ _ c.loop-g.g c.loop-g.scan _ (own (goal.at.returns-in-Lowest c).After-stored-all) c.loop-g.invariant.1 c.args.table (ap nat_abs (to_z-of_z w64 c.args.table.length (search rules)))
     c.loop-g-test.true (sym c.look_at.ensures ∙ c.in-Lowest.is) _ c.told.ensures
 
 pub loop-g-smaller : goal.loop-g-smaller
@@ -76,4 +66,4 @@ unfolding tested_stored
 returns c =
     let t = c.args.table in
     let e : c.loop-g.g ≡ t.count = omega arith in
-    scanned_all _ t _ c.loop-g.scan (same_length (goal.at.returns c).After-struct_told-1) (rw e at c.loop-g.invariant.1) _ c.told-2.ensures
+    scanned_all _ t _ c.loop-g.scan (ap nat_abs (to_z-of_z w64 c.args.table.length (search rules))) (rw e at c.loop-g.invariant.1) _ c.told-2.ensures

@@ -2,6 +2,7 @@
 -- Assumes nothing.
 use borrow.Author.Rules.{rules}
 use mathlib.Core.Path.{sym, ◌∙◌, ap, ap₂}
+use Prim.Native.Nat.{◌≤◌}
 use native.Mathlib.Omega.{arith}
 use lib.ListN.{length, drop, length-append}
 use lib.Seq.{length-take-le, take_at, drop_at}
@@ -10,21 +11,25 @@ use Rattle.image.proofs.Back.{stored_whole}
 use Rattle.image.proofs.Slots.{room}
 use Rattle.opened.proofs.Opening.{few}
 use Rattle.opened.proofs.taken.Goals as goal
-use Rattle.opened.proofs.taken.Goals.{After-struct_known-2-1}
 
 pub slice_bounds-coefficients-end : goal.slice_bounds-coefficients-end
 slice_bounds-coefficients-end c = omega (arith, room _ _ (few _ _ c.requires.accepted), c.room-coefficients.type_inv, c.how_many-many.ensures)
 
 pub slice_bounds-take_coefficients-end : goal.slice_bounds-take_coefficients-end
-slice_bounds-take_coefficients-end c = sym (length-take-le _ _ (slice_bounds-coefficients-end (goal.at.slice_bounds-take_coefficients-end c).After-struct_known-2-1))
+slice_bounds-take_coefficients-end c =
+    let fits : c.how_many-many.result ≤ length c.room-coefficients.result =
+    omega (arith, room _ _ (few _ _ c.requires.accepted), c.room-coefficients.type_inv, c.how_many-many.ensures) in
+    sym (length-take-le _ _ fits)
 
 pub take_coefficients-requires : goal.take_coefficients-requires
 take_coefficients-requires c =
     let o = c.requires.accepted in
+    let fits : c.how_many-many.result ≤ length c.room-coefficients.result =
+    omega (arith, room _ _ (few _ _ c.requires.accepted), c.room-coefficients.type_inv, c.how_many-many.ensures) in
     record {
       bounds = few _ _ o;
       blocks = accepted_blocks _ _ o;
-      long = length-take-le _ _ (slice_bounds-coefficients-end (goal.at.take_coefficients-requires c).After-struct_known-2-1) ∙ c.how_many-many.ensures;
+      long = length-take-le _ _ fits ∙ c.how_many-many.ensures;
     }
 
 pub returns : goal.returns

@@ -1,6 +1,6 @@
 -- `blocks::judging::judge` meets its contract: a test passed at a time, in their order. Assumes
 -- nothing.
-use Prim.Native.Nat.{ℕ, ◌*◌, zero-le}
+use Prim.Native.Nat.{ℕ, ◌*◌, ◌≤◌, zero-le}
 use Rattle.granules.specs.Answers.{tested_stored}
 use Rattle.image.proofs.Bounding.{bounds_told}
 use Rattle.blocks.proofs.Telling.{tested_is}
@@ -23,7 +23,7 @@ use mathlib.Core.List.{List}
 use mathlib.Core.Path.{◌≡◌, refl, sym, ◌∙◌, ap}
 use native.Mathlib.Omega.{arith}
 use Rattle.blocks.proofs.judging.judge.Goals as goal
-use Rattle.blocks.proofs.judging.judge.Goals.{After-bounded, Else-blocks-count, Else-lowest_unformed-lt1, Else-not-bounded, Else-not-whole, Else-unchecked-blocks}
+use Rattle.blocks.proofs.judging.judge.Goals.{After-bounded, After-lowest_unformed, Else-blocks-count, Else-not-bounded, Else-not-whole, Else-unchecked-blocks}
 
 -- what is judged, by the tests of the table in the bytes
 judged_is : (b : List ℕ) → judged_by (table_tests b (table_of b)) (table_of b) ≡ judged b
@@ -36,11 +36,13 @@ is_whole_lem c = sym c.whole.ensures ∙ c.if-not-whole.false
 by_first : (c : Else-unchecked-blocks) (t : Table) → judged_by (table_tests c.args.bytes.now t) t ≡ judged_by (from_first c.args.bytes.now t) t
 by_first c t = past11 c.args.bytes.now t (past10 c.args.bytes.now t (is_whole_lem (goal.at.Else-unchecked-blocks c).Else-not-whole)) _ c.lowest_unchecked-unchecked.ensures c.if-unchecked-blocks.false
 
-first_formed : (c : Else-lowest_unformed-lt1) → is_formed 0 0 0 (block c.args.bytes.now 0) ≡ true
-first_formed c = one_go (λ k. is_formed 0 0 k (block c.args.bytes.now k)) _ c.lowest_unformed.ensures c.if-lowest_unformed-lt1.false
+-- block 0 is looked at alone, so that it is formed where the lowest that is not is 1
+first_formed : (c : After-lowest_unformed) → 1 ≤ c.lowest_unformed.result → is_formed 0 0 0 (block c.args.bytes.now 0) ≡ true
+first_formed c h = one_go (λ k. is_formed 0 0 k (block c.args.bytes.now k)) _ c.lowest_unformed.ensures h
 
-by13 : (c : Else-lowest_unformed-lt1) (t : Table) → judged_by (table_tests c.args.bytes.now t) t ≡ judged_by (from13 c.args.bytes.now t) t
-by13 c t = past_first c.args.bytes.now t (by_first (goal.at.Else-lowest_unformed-lt1 c).Else-unchecked-blocks t) (first_formed c)
+by13 : (c : After-lowest_unformed) (t : Table) → 1 ≤ c.lowest_unformed.result
+    → judged_by (table_tests c.args.bytes.now t) t ≡ judged_by (from13 c.args.bytes.now t) t
+by13 c t h = past_first c.args.bytes.now t (by_first (goal.at.After-lowest_unformed c).Else-unchecked-blocks t) (first_formed c h)
 
 -- the answer over the table in hand is that over the bytes' own
 same_judged : (c : After-bounded) → judged_by (table_tests c.args.bytes.now c.table_of-table.result) c.table_of-table.result ≡ judged c.args.bytes.now
@@ -52,7 +54,7 @@ is_bounded_lem c = sym c.bounded.ensures ∙ c.if-not-bounded.false
 by12 : (c : Else-blocks-count)
     → judged_by (table_tests c.args.bytes.now c.table_of-table.result) c.table_of-table.result
     ≡ judged_by (from12 c.args.bytes.now c.table_of-table.result) c.table_of-table.result
-by12 c = past13 c.args.bytes.now c.table_of-table.result (by13 (goal.at.Else-blocks-count c).Else-lowest_unformed-lt1 c.table_of-table.result) (is_bounded_lem (goal.at.Else-blocks-count c).Else-not-bounded) c.if-blocks-count.false
+by12 c = past13 c.args.bytes.now c.table_of-table.result (by13 (goal.at.Else-blocks-count c).After-lowest_unformed c.table_of-table.result (omega arith)) (is_bounded_lem (goal.at.Else-blocks-count c).Else-not-bounded) c.if-blocks-count.false
 
 pub returns-then-not-whole : goal.returns-then-not-whole
 returns-then-not-whole c =
@@ -80,33 +82,22 @@ lowest_unformed-requires c =
       before = below_none _;
     }
 
-pub returns-then-lowest_unformed-lt1 : goal.returns-then-lowest_unformed-lt1
-returns-then-lowest_unformed-lt1 c =
-    let b = c.args.bytes.now in
-    c.refused-then-lowest_unformed-lt1.ensures
-    ∙ refused12_first b (table_of b) (by_first (goal.at.returns-then-lowest_unformed-lt1 c).Else-unchecked-blocks (table_of b))
-    (one_stop (λ k. is_formed 0 0 k (block b k)) _ c.lowest_unformed.ensures c.if-lowest_unformed-lt1.true)
-    ∙ judged_is b
-
 pub table_of-table-requires : goal.table_of-table-requires
 table_of-table-requires c = let w = whole_told _ (is_whole_lem (goal.at.table_of-table-requires c).Else-not-whole) in omega (arith, w.blocks, w.some)
 
 pub returns-then-not-bounded : goal.returns-then-not-bounded
 returns-then-not-bounded c =
     c.refused-then-not-bounded.ensures
-    ∙ refused13_bound c.args.bytes.now c.table_of-table.result (by13 (goal.at.returns-then-not-bounded c).Else-lowest_unformed-lt1 c.table_of-table.result) (sym c.bounded.ensures ∙ c.if-not-bounded.true)
+    ∙ refused13_bound c.args.bytes.now c.table_of-table.result (by13 (goal.at.returns-then-not-bounded c).After-lowest_unformed c.table_of-table.result (omega arith)) (sym c.bounded.ensures ∙ c.if-not-bounded.true)
     ∙ same_judged (goal.at.returns-then-not-bounded c).After-bounded
 
 pub returns-then-blocks-count : goal.returns-then-blocks-count
-returns-then-blocks-count c = c.refused-then-blocks-count.ensures ∙ refused13_blocks c.args.bytes.now c.table_of-table.result (by13 (goal.at.returns-then-blocks-count c).Else-lowest_unformed-lt1 c.table_of-table.result) (is_bounded_lem (goal.at.returns-then-blocks-count c).Else-not-bounded) c.if-blocks-count.true ∙ same_judged (goal.at.returns-then-blocks-count c).After-bounded
+returns-then-blocks-count c = c.refused-then-blocks-count.ensures ∙ refused13_blocks c.args.bytes.now c.table_of-table.result (by13 (goal.at.returns-then-blocks-count c).After-lowest_unformed c.table_of-table.result (omega arith)) (is_bounded_lem (goal.at.returns-then-blocks-count c).Else-not-bounded) c.if-blocks-count.true ∙ same_judged (goal.at.returns-then-blocks-count c).After-bounded
 
 pub lowest_unformed-unformed-requires : goal.lowest_unformed-unformed-requires
 lowest_unformed-unformed-requires c =
     search_for c.args.bytes.now c.table_of-table.result (whole_told _ (is_whole_lem (goal.at.lowest_unformed-unformed-requires c).Else-not-whole)) (bounds_told c.table_of-table.result (is_bounded_lem (goal.at.lowest_unformed-unformed-requires c).Else-not-bounded))
-    c.if-blocks-count.false (first_formed (goal.at.lowest_unformed-unformed-requires c).Else-lowest_unformed-lt1)
-
-pub returns-then-unformed-blocks : goal.returns-then-unformed-blocks
-returns-then-unformed-blocks c = c.refused-then-unformed-blocks.ensures ∙ refused12 c.args.bytes.now c.table_of-table.result (by12 (goal.at.returns-then-unformed-blocks c).Else-blocks-count) _ c.lowest_unformed-unformed.ensures c.if-unformed-blocks.true ∙ same_judged (goal.at.returns-then-unformed-blocks c).After-bounded
+    c.if-blocks-count.false (first_formed (goal.at.lowest_unformed-unformed-requires c).After-lowest_unformed (omega arith))
 
 pub test_stored-requires : goal.test_stored-requires
 test_stored-requires c =
@@ -114,7 +105,7 @@ test_stored-requires c =
     record {
       bounds = bounds_told c.table_of-table.result (is_bounded_lem (goal.at.test_stored-requires c).Else-not-bounded);
       long = w.blocks ∙ ap (λ (k : ℕ). k * 512) c.if-blocks-count.false;
-      formed = formed12 c.args.bytes.now c.table_of-table.result _ c.lowest_unformed-unformed.ensures c.if-unformed-blocks.false c.if-blocks-count.false;
+      formed = formed12 c.args.bytes.now c.table_of-table.result _ c.lowest_unformed-unformed.ensures (omega arith) c.if-blocks-count.false;
     }
 
 pub returns : goal.returns
@@ -123,4 +114,10 @@ returns c =
     c.tested.ensures
     ∙ ap (judged_tested c.table_of-table.result) c.test_stored.ensures
     ∙ tested_is (from14 c.args.bytes.now c.table_of-table.result) c.table_of-table.result
-    ∙ sym (past12 c.args.bytes.now c.table_of-table.result (by12 (goal.at.returns c).Else-blocks-count) _ c.lowest_unformed-unformed.ensures c.if-unformed-blocks.false) ∙ same_judged (goal.at.returns c).After-bounded
+    ∙ sym (past12 c.args.bytes.now c.table_of-table.result (by12 (goal.at.returns c).Else-blocks-count) _ c.lowest_unformed-unformed.ensures (omega arith)) ∙ same_judged (goal.at.returns c).After-bounded
+
+pub returns-then-unformed-blocks : goal.returns-then-unformed-blocks
+returns-then-unformed-blocks c =
+    c.refused-then-unformed-blocks.ensures
+    ∙ refused12 c.args.bytes.now c.table_of-table.result (by12 (goal.at.returns-then-unformed-blocks c).Else-blocks-count) _ c.lowest_unformed-unformed.ensures (omega arith)
+    ∙ same_judged (goal.at.returns-then-unformed-blocks c).After-bounded

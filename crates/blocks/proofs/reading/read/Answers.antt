@@ -12,27 +12,27 @@ use mathlib.Core.List.{List}
 use mathlib.Core.Path.{◌≡◌, sym, ◌∙◌}
 use native.Mathlib.Omega.{arith}
 use Rattle.blocks.proofs.reading.read.Goals as goal
-use Rattle.blocks.proofs.reading.read.Goals.{After-struct_known-in-Accepted-1}
+use Rattle.blocks.proofs.reading.read.Goals.{In-Accepted}
 
-is_accepted : (c : After-struct_known-in-Accepted-1)
+is_accepted : (c : In-Accepted)
     → judged c.args.bytes.now ≡ Accepted c.in-Accepted.table
 is_accepted c = sym c.judge.ensures ∙ c.in-Accepted.is
 
-accepted : (c : After-struct_known-in-Accepted-1)
+accepted : (c : In-Accepted)
     → table.Accepted c.in-Accepted.table (stored_for c.args.bytes.now c.in-Accepted.table)
 accepted c = accepted_of _ _ (is_accepted c)
 
 pub overflow_mul-count : goal.overflow_mul-count
-overflow_mul-count c = omega (arith, room c.in-Accepted.table.count c.in-Accepted.table.degree (accepted c).bounds.few)
+overflow_mul-count c = omega (arith, room c.in-Accepted.table.count c.in-Accepted.table.degree (accepted (goal.at.overflow_mul-count c).In-Accepted).bounds.few)
 
 pub returns-then-coefficients-count : goal.returns-then-coefficients-count
-returns-then-coefficients-count c = rw c.refused.ensures (read_unfit c.args.bytes.now c.args.coefficients.now c.in-Accepted.table (is_accepted (goal.at.returns-then-coefficients-count c).After-struct_known-in-Accepted-1) c.if-coefficients-count.true)
+returns-then-coefficients-count c = rw c.refused.ensures (read_unfit c.args.bytes.now c.args.coefficients.now c.in-Accepted.table (is_accepted (goal.at.returns-then-coefficients-count c).In-Accepted) c.if-coefficients-count.true)
 
 pub take_coefficients-requires : goal.take_coefficients-requires
 take_coefficients-requires c =
     record {
-      bounds = (accepted (goal.at.take_coefficients-requires c).After-struct_known-in-Accepted-1).bounds.few;
-      blocks = accepted_blocks _ _ (is_accepted (goal.at.take_coefficients-requires c).After-struct_known-in-Accepted-1);
+      bounds = (accepted (goal.at.take_coefficients-requires c).In-Accepted).bounds.few;
+      blocks = accepted_blocks _ _ (is_accepted (goal.at.take_coefficients-requires c).In-Accepted);
       long = c.if-coefficients-count.false;
     }
 
@@ -40,4 +40,4 @@ pub returns-in-Refused : goal.returns-in-Refused
 returns-in-Refused c = read_table_refused c.args.bytes.now c.args.coefficients.now _ (sym c.judge.ensures ∙ c.in-Refused.is)
 
 pub returns-else-coefficients-count : goal.returns-else-coefficients-count
-returns-else-coefficients-count c = read_done c.args.bytes.now c.args.coefficients.now c.in-Accepted.table (is_accepted (goal.at.returns-else-coefficients-count c).After-struct_known-in-Accepted-1) _ c.if-coefficients-count.false c.take_coefficients.ensures
+returns-else-coefficients-count c = read_done c.args.bytes.now c.args.coefficients.now c.in-Accepted.table (is_accepted (goal.at.returns-else-coefficients-count c).In-Accepted) _ c.if-coefficients-count.false c.take_coefficients.ensures

@@ -1,5 +1,6 @@
 -- `ephemeris::places::place_of` meets its contract: the tick is inside the table, so the difference
 -- is one of its places. Assumes nothing.
+use borrow.Author.Rules.{rules}
 use mathlib.Core.Path.{◌≡◌}
 use Prim.Native.Nat.{◌*◌, ◌≤◌}
 use native.Mathlib.Omega.{arith}
@@ -18,7 +19,6 @@ use Rattle.ephemeris.specs.Asked.{TickInside}
 use Rattle.ephemeris.proofs.Bounds.{last_small, start_is, not_negative}
 use Rattle.ephemeris.proofs.Ticks.{inside_both, placed}
 use Rattle.ephemeris.proofs.places.place_of.Goals as goal
-use Rattle.ephemeris.proofs.places.place_of.Goals.{After-struct_told-2-1}
 
 -- the numbers in the words of the code
 record Safe (T : Table) (t : ℤ) : Type 0 where
@@ -39,16 +39,11 @@ safe T t p f =
       is = rw (read_is t f, start_is T B, read_is _ fits);
     }
 
-all : (c : After-struct_told-2-1)
-    → Safe c.args.table c.args.tick.0
-all c =
-    safe c.args.table c.args.tick.0 c.requires (record { sfits = c.struct_told-1.given.0.1 })
-
 pub overflow_sub-result : goal.overflow_sub-result
-overflow_sub-result c = (all c).sub
+overflow_sub-result c = (safe c.args.table c.args.tick.0 c.requires (search rules)).sub
 
 pub overflow_cast-result : goal.overflow_cast-result
-overflow_cast-result c = (all c).cast
+overflow_cast-result c = (safe c.args.table c.args.tick.0 c.requires (search rules)).cast
 
 pub returns : goal.returns
-returns c = (all c).is
+returns c = (safe c.args.table c.args.tick.0 c.requires (search rules)).is

@@ -16,7 +16,7 @@ use mir.Val.{SFits, to_z, of_z}
 use mir.ValLaws.{to_z-of_z, to_z_pos}
 use native.Mathlib.Omega.{arith}
 use Rattle.image.proofs.bounds.bounded.Goals as goal
-use Rattle.image.proofs.bounds.bounded.Goals.{After-struct_told-2-1, Else-length-gt-LONGEST_LENGTH, Else-length-lt-SHORTEST_LENGTH, Else-not-valid, Else-table-gt-MOST_DEGREE, Else-table-gt-MOST_GRANULES}
+use Rattle.image.proofs.bounds.bounded.Goals.{Else-length-gt-LONGEST_LENGTH, Else-length-lt-SHORTEST_LENGTH, Else-not-valid, Else-table-gt-MOST_DEGREE, Else-table-gt-MOST_GRANULES}
 
 abbrev table1 : Else-table-gt-MOST_DEGREE → Table
 table1 c = c.args.table
@@ -36,12 +36,8 @@ table5 c = c.args.table
 abbrev table6 : Else-not-valid → Table
 table6 c = c.args.table
 
-start_back : (c : After-struct_told-2-1)
-    → to_z w64 (of_z w64 (table5 (goal.at.After-struct_told-2-1 c).Else-table-gt-MOST_GRANULES).start.0) ≡ (table5 (goal.at.After-struct_told-2-1 c).Else-table-gt-MOST_GRANULES).start.0
-start_back c = to_z-of_z w64 _ (record { sfits = c.type_inv.start.0.1 })
-
 start_valid : (c : Else-not-valid) → is_valid (table6 c).start.0 ≡ true
-start_valid c = rw (start_back (goal.at.Else-not-valid c).After-struct_told-2-1) at (sym c.valid.ensures ∙ c.if-not-valid.false)
+start_valid c = rw (to_z-of_z w64 c.args.table.start.0 (search rules)) at (sym c.valid.ensures ∙ c.if-not-valid.false)
 
 count_back : (c : Else-not-valid)
     → to_z w64 (table6 c).count ≡ pos (table6 c).count
@@ -77,16 +73,16 @@ returns-then-table-gt-MOST_GRANULES c = too_many (table1 (goal.at.returns-then-t
 pub returns-then-not-valid : goal.returns-then-not-valid
 returns-then-not-valid c =
     start_outside (table5 (goal.at.returns-then-not-valid c).Else-table-gt-MOST_GRANULES) c.if-table-gt-MOST_DEGREE.false (not_short (goal.at.returns-then-not-valid c).Else-length-lt-SHORTEST_LENGTH) (not_long (goal.at.returns-then-not-valid c).Else-length-gt-LONGEST_LENGTH) c.if-table-lt1.false c.if-table-gt-MOST_GRANULES.false
-    (rw (start_back (goal.at.returns-then-not-valid c).After-struct_told-2-1) at (sym c.valid.ensures ∙ c.if-not-valid.true))
+    (rw (to_z-of_z w64 c.args.table.start.0 (search rules)) at (sym c.valid.ensures ∙ c.if-not-valid.true))
 
 pub overflow_mul-count : goal.overflow_mul-count
 overflow_mul-count c = rw (count_back c, length_back (goal.at.overflow_mul-count c).Else-table-gt-MOST_DEGREE) (span_here c)
 
 pub overflow_add-start : goal.overflow_add-start
-overflow_add-start c = rw (start_back (goal.at.overflow_add-start c).After-struct_told-2-1, count_back (goal.at.overflow_add-start c).Else-not-valid, length_back (goal.at.overflow_add-start c).Else-table-gt-MOST_DEGREE, to_z-of_z w64 _ (span_here (goal.at.overflow_add-start c).Else-not-valid)) (end_here (goal.at.overflow_add-start c).Else-not-valid)
+overflow_add-start c = rw (to_z-of_z w64 c.args.table.start.0 (search rules), count_back (goal.at.overflow_add-start c).Else-not-valid, length_back (goal.at.overflow_add-start c).Else-table-gt-MOST_DEGREE, to_z-of_z w64 _ (span_here (goal.at.overflow_add-start c).Else-not-valid)) (end_here (goal.at.overflow_add-start c).Else-not-valid)
 
 pub returns : goal.returns
 returns c =
-    let told = rw (start_back (goal.at.returns c).After-struct_told-2-1, count_back (goal.at.returns c).Else-not-valid, length_back (goal.at.returns c).Else-table-gt-MOST_DEGREE) at c.valid-2.ensures in
+    let told = rw (to_z-of_z w64 c.args.table.start.0 (search rules), count_back (goal.at.returns c).Else-not-valid, length_back (goal.at.returns c).Else-table-gt-MOST_DEGREE) at c.valid-2.ensures in
     rw (to_z-of_z w64 _ (span_here (goal.at.returns c).Else-not-valid), to_z-of_z w64 _ (end_here (goal.at.returns c).Else-not-valid)) at told
     ∙ end_told (table5 (goal.at.returns c).Else-table-gt-MOST_GRANULES) c.if-table-gt-MOST_DEGREE.false (not_short (goal.at.returns c).Else-length-lt-SHORTEST_LENGTH) (not_long (goal.at.returns c).Else-length-gt-LONGEST_LENGTH) c.if-table-lt1.false c.if-table-gt-MOST_GRANULES.false (start_valid (goal.at.returns c).Else-not-valid)

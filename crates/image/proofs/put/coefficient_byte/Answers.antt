@@ -54,4 +54,4 @@ pub returns : goal.returns
 unfolding coefficient_byte
 returns c =
     let z = get_or c.args.coefficients.now (granule_at c.args.k c.args.j * (c.args.degree + 1) + which_at c.args.j) (pos 0) in
-    c.byte_of.ensures ∙ ap (λ x. byte_of x ((c.args.j - 8) % 8)) (c.bits_of.ensures ∙ ap (of_z w64) (to_z-of_z w64 z (record { sfits = c.c-1.given })))
+    c.byte_of.ensures ∙ ap (λ x. byte_of x ((c.args.j - 8) % 8)) (c.bits_of.ensures ∙ ap (of_z w64) (to_z-of_z w64 z (search rules)))

@@ -26,14 +26,14 @@ overflow_sub-j c = (told (goal.at.overflow_sub-j c).Else-j-eq2).0
 pub returns-then-j-lt16 : goal.returns-then-j-lt16
 unfolding number_byte
 returns-then-j-lt16 c =
-    let start_back = to_z-of_z w64 c.args.table.start.0 (record { sfits = c.struct_told-1.given.0.1 }) in
+    let start_back = to_z-of_z w64 c.args.table.start.0 (search rules) in
     simp (ne_eqb _ _ c.if-j-eq2.false, lt-ltb _ _ c.if-j-lt16.true)
     (c.byte_of.ensures ∙ ap (λ x. byte_of x (c.args.j - 8)) (c.bits_of.ensures ∙ ap (of_z w64) start_back))
 
 pub returns-then-j-lt24 : goal.returns-then-j-lt24
 unfolding number_byte
 returns-then-j-lt24 c =
-    let length_back = to_z-of_z w64 c.args.table.length (record { sfits = c.struct_told-then-j-lt24-1.given.1.0.1 }) in
+    let length_back = to_z-of_z w64 c.args.table.length (search rules) in
     simp (ne_eqb _ _ c.if-j-eq2.false, le-ltb _ _ c.if-j-lt16.false, lt-ltb _ _ c.if-j-lt24.true)
     (c.byte_of-then-j-lt24.ensures ∙ ap (λ x. byte_of x (c.args.j - 16)) (c.bits_of-then-j-lt24.ensures ∙ ap (of_z w64) length_back))
 

@@ -8,4 +8,4 @@ pub to_tt-requires : goal.to_tt-requires
 to_tt-requires c = c.requires.accepted _ c.in-Table.is
 
 pub returns-in-Table : goal.returns-in-Table
-returns-in-Table c = rw c.in-Table.is (rw (read_is _ (record { sfits = c.struct_told-1.given.1.0.1 })) at c.to_tt.ensures)
+returns-in-Table c = rw c.in-Table.is (rw (read_is c.args.epoch.tick (search rules)) at c.to_tt.ensures)

@@ -51,7 +51,7 @@ tick_at-tick-requires c =
 pub returns-then-covered : goal.returns-then-covered
 returns-then-covered c =
     reached c.args.table c.args.coefficients.now c.args.self.0.0 _ (sym c.covered.ensures ∙ c.if-covered.true)
-    (read_is _ (record { sfits = c.struct_told-1.given.0.1 }) ∙ c.tick_at-tick.ensures ∙ ap (tick_at c.args.table) c.earliest_place-place.ensures)
+    (read_is c.tick_at-tick.result.0 (search rules) ∙ c.tick_at-tick.ensures ∙ ap (tick_at c.args.table) c.earliest_place-place.ensures)
 
 pub returns : goal.returns
 returns c = outside c.args.table c.args.coefficients.now c.args.self.0.0 (sym c.covered.ensures ∙ c.if-covered.false)

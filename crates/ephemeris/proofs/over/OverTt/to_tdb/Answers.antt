@@ -14,7 +14,7 @@ use Rattle.ephemeris.specs.Table.{is_inside, tdb_of, tdb_at}
 use Rattle.ephemeris.specs.Steps.{tdb_step}
 use Rattle.ephemeris.proofs.Ticks.{inside_both, placed, tdb_of_lem}
 use Rattle.ephemeris.proofs.over.OverTt.to_tdb.Goals as goal
-use Rattle.ephemeris.proofs.over.OverTt.to_tdb.Goals.{After-struct_told-1, After-tdb_at-tdb, Else-not-inside}
+use Rattle.ephemeris.proofs.over.OverTt.to_tdb.Goals.{After-tdb_at-tdb, Else-not-inside}
 
 outside : (T : Table) (cs : List ℤ) (t : ℤ) → is_inside T t ≡ false → OutsideTable ≡ tdb_step T cs t
 unfolding tdb_step
@@ -36,9 +36,6 @@ tdb_is c =
     ∙ ap (tdb_at c.args.table c.args.coefficients.now) c.place_of.ensures
     ∙ sym (tdb_of_lem c.args.table c.args.coefficients.now c.args.self.0.0 (inside_both _ _ (within (goal.at.After-tdb_at-tdb c).Else-not-inside)).0)
 
-read_tdb : (c : After-struct_told-1) → read c.tdb_at-tdb.result.0 ≡ c.tdb_at-tdb.result.0
-read_tdb c = read_is _ (record { sfits = c.type_inv.tdb.0.1 })
-
 pub returns-then-not-inside : goal.returns-then-not-inside
 returns-then-not-inside c = outside c.args.table c.args.coefficients.now c.args.self.0.0 (sym c.inside.ensures ∙ c.if-not-inside.true)
 
@@ -51,6 +48,6 @@ tdb_at-tdb-requires c = record { accepted = c.requires; inside = rw c.place_of.e
 pub returns : goal.returns
 returns c =
     c.keep.ensures
-    ∙ ap (kept_in Tdb) (read_tdb (goal.at.returns c).After-struct_told-1)
+    ∙ ap (kept_in Tdb) (read_is c.tdb_at-tdb.result.0 (search rules))
     ∙ kept c.args.table c.args.coefficients.now c.args.self.0.0 c.tdb_at-tdb.result.0
     (within (goal.at.returns c).Else-not-inside) (tdb_is (goal.at.returns c).After-tdb_at-tdb)
