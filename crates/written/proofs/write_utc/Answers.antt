@@ -41,17 +41,17 @@ unfolding write_utc_of
 by_written from to reading leaps bytes e w = rw (e, w)
 
 pub write-requires : goal.write-requires
-write-requires c = rw (to_z-of_z w64 _ (record { sfits = c.struct_told-1.given.1.0.1 })) (to_write _ _ _ _ _ (sym c.convert_into.ensures ∙ c.in-Converted.is))
+write-requires c = rw (to_z-of_z w64 c.in-Converted.epoch.tick (record { sfits = search rules })) (to_write _ _ _ _ _ (sym c.convert_into.ensures ∙ c.in-Converted.is))
 
 -- the tick, written
 pub returns-in-Utc : goal.returns-in-Utc
 returns-in-Utc c =
-    let wrote = rw (to_z-of_z w64 _ (record { sfits = c.struct_told-1.given.1.0.1 })) at c.write.ensures in
+    let wrote = rw (to_z-of_z w64 c.in-Converted.epoch.tick (record { sfits = search rules })) at c.write.ensures in
     by_written _ _ _ _ _ (sym c.convert_into.ensures ∙ c.in-Converted.is) (sym wrote ∙ c.in-Utc.is)
 
 pub returns-in-Refused-write : goal.returns-in-Refused-write
 returns-in-Refused-write c =
-    let wrote = rw (to_z-of_z w64 _ (record { sfits = c.struct_told-1.given.1.0.1 })) at c.write.ensures in
+    let wrote = rw (to_z-of_z w64 c.in-Converted.epoch.tick (record { sfits = search rules })) at c.write.ensures in
     by_written _ _ _ _ _ (sym c.convert_into.ensures ∙ c.in-Converted.is) (sym wrote ∙ c.in-Refused-write.is)
 
 pub returns-in-Refused : goal.returns-in-Refused

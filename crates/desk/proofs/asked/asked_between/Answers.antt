@@ -1,7 +1,5 @@
 -- `desk::asked::asked_between` meets its contract. Assumes nothing.
-use borrow.Author.Rules.{rules}
 use mathlib.Core.Path.{sym, ◌∙◌}
-use borrow.Author.Tests.{not-true, not-false}
 use Rattle.desk.proofs.asked.asked_between.Goals as goal
 
 pub returns-then-not-fits : goal.returns-then-not-fits

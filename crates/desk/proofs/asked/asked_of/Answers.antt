@@ -1,8 +1,6 @@
 -- `desk::asked::asked_of` meets its contract. Assumes nothing.
-use borrow.Author.Rules.{rules}
 use mathlib.Core.Path.{◌≡◌, sym, ◌∙◌}
 use Rattle.scales.specs.declared.scale.Named.TheVariants as N
-use Rattle.scales.specs.declared.scale.Scale.{Scale}
 use Rattle.scales.specs.Scales.{scale_of}
 use Rattle.desk.proofs.Asking.{from_refused, to_refused, both_named}
 use Rattle.desk.proofs.asked.asked_of.Goals as goal

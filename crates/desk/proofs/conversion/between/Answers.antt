@@ -9,7 +9,7 @@ use Rattle.desk.proofs.conversion.between.Goals as goal
 pub returns-in-Tick : goal.returns-in-Tick
 returns-in-Tick c =
     rw c.in-Tick.is
-    (rw (to_z-of_z w64 _ (record { sfits = c.in-Tick.known_told-1-own.given.0.1 })) at c.walk.ensures ∙ between_tick _ _ _ _ _)
+    (rw (to_z-of_z w64 c.in-Tick.tick (record { sfits = search rules })) at c.walk.ensures ∙ between_tick _ _ _ _ _)
 
 pub returns-in-Refused : goal.returns-in-Refused
 returns-in-Refused c = rw c.in-Refused.is (between_refusal _ _ _ _ _)

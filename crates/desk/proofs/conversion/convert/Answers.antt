@@ -1,5 +1,4 @@
 -- `desk::conversion::convert` meets its contract. Assumes nothing.
-use borrow.Author.Rules.{rules}
 use Rattle.desk.proofs.conversion.convert.Goals as goal
 
 pub returns : goal.returns

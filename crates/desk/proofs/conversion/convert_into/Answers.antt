@@ -2,11 +2,9 @@
 -- so that the list is right where a UTC reading goes by it; and where both scales are one the path
 -- has no step. Assumes nothing.
 use borrow.Author.Rules.{rules}
-use denote.Enum.Declared.{tag_of}
-use mathlib.Core.Path.{◌≡◌, refl, sym, ◌∙◌, ap}
+use mathlib.Core.Path.{◌≡◌, refl, sym, ◌∙◌}
 use mathlib.Core.Bool.{true}
 use mathlib.Core.List.{[]}
-use mathlib.Core.Logic.{◌⊎◌, ⊎_elim}
 use native.Mathlib.Omega.{arith}
 use lib.IntN.{ℤ}
 use mir.Syntax.{w64}
@@ -14,18 +12,15 @@ use mir.ValLaws.{to_z-of_z}
 use Rattle.scales.specs.declared.answer.Answer.TheVariants.{Converted}
 use Rattle.scales.specs.declared.answer.Read.{Read}
 use Rattle.scales.specs.declared.answer.Read.TheVariants as R
-use Rattle.scales.specs.declared.refusal.Refusal.{Refusal}
 use Rattle.scales.specs.declared.scale.Scale.{Scale}
 use Rattle.scales.specs.Path.{is_one_scale}
 use Rattle.scales.proofs.Paths.{one_scale_here}
 use Rattle.walk.specs.declared.kept.Kept.TheVariants.{Nothing}
 use Rattle.walk.proofs.Walking.{whole_left, at_end}
 use Rattle.desk.specs.declared.asked.Asked.{Asked}
-use Rattle.desk.specs.declared.asked.Asked.TheVariants as A
 use Rattle.dates.specs.Readings.{read_of}
 use Rattle.desk.specs.Conversion.{between_of, convert_into}
 use Rattle.desk.specs.Inner.{asked_over}
-use Rattle.desk.specs.contracts.asked.Asked as asked
 use Rattle.desk.proofs.Asking.{between_tick, asked_lent, into}
 use Rattle.desk.proofs.LentList.{listed}
 use Rattle.desk.proofs.conversion.convert_into.Goals as goal
@@ -61,7 +56,7 @@ tick_of-requires c =
 
 pub returns-then-is_one_scale : goal.returns-then-is_one_scale
 returns-then-is_one_scale c =
-    rw (to_z-of_z w64 _ (record { sfits = c.in-Tick.known_told-in-Tick-1-own.given.0.1 }))
+    rw (to_z-of_z w64 c.in-Tick.tick (record { sfits = search rules }))
     (nowhere _ _ _ (sym c.is_one_scale.ensures ∙ c.if-is_one_scale.true)
     ∙ answered (goal.at.returns-then-is_one_scale c).After-asked_over-asked _ _ c.in-Plain.is (sym c.in-Tick.is ∙ c.tick_of.ensures))
 
@@ -69,7 +64,7 @@ pub returns-after-asked-2 : goal.returns-after-asked-2
 returns-after-asked-2 c =
     let is : c.match-asked-2.asked ≡ c.asked_over-asked.result =
     elim c.match-asked-2.branch [ in-Plain+else-is_one_scale w ↦ w.asked-is ∙ sym w.in-Plain.is | in_default-asked w ↦ w.asked-is ] in
-    rw (to_z-of_z w64 _ (record { sfits = c.in-Tick.known_told-in-Tick-1-own.given.0.1 })) at c.convert_tick.ensures
+    rw (to_z-of_z w64 c.in-Tick.tick (record { sfits = search rules })) at c.convert_tick.ensures
     ∙ answered (goal.at.returns-after-asked-2 c).After-asked_over-asked _ _ (sym is) (sym c.in-Tick.is ∙ c.tick_of.ensures)
 
 pub returns-in-Refused-tick_of : goal.returns-in-Refused-tick_of

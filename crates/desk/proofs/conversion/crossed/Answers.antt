@@ -1,5 +1,4 @@
 -- `desk::conversion::crossed` meets its contract. Assumes nothing.
-use borrow.Author.Rules.{rules}
 use Rattle.walk.proofs.Holding.{accepted_held}
 use Rattle.desk.proofs.conversion.crossed.Goals as goal
 

@@ -1,5 +1,4 @@
 -- `desk::conversion::refuse` meets its contract. Assumes nothing.
-use borrow.Author.Rules.{rules}
 use Rattle.desk.proofs.Asking.{between_refusal}
 use Rattle.desk.proofs.conversion.refuse.Goals as goal
 

@@ -1,5 +1,4 @@
 -- `desk::leaps::asked_over` meets its contract. Assumes nothing.
-use borrow.Author.Rules.{rules}
 use mathlib.Core.Path.{◌≡◌, sym, ◌∙◌}
 use mathlib.Core.Bool.{true, false}
 use Rattle.desk.specs.Order.{uses_leaps}
