@@ -24,7 +24,8 @@ utc_written_ticks (W.Refused refusal) = pos 0
 -- the same of a written one
 abbrev pub WritesUtc : UtcWritten → ℤ → ℤ → Type 0
 WritesUtc answer day ticks =
-    (utc_written_number answer ≡ 0) × (utc_written_day answer ≡ day) × (utc_written_ticks answer ≡ ticks)
+    (utc_written_number answer ≡ 0) × (utc_written_day answer ≡ day)
+    × (utc_written_ticks answer ≡ ticks)
 
 abbrev pub WriteRefuses : UtcWritten → ℕ → ℕ → Type 0
 WriteRefuses answer number place =

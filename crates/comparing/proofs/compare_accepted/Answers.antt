@@ -24,14 +24,18 @@ seconds s = granule_stored s.args.second.now s.args.other.degree
 same : (c : Else-not-alike) → is_alike c.args.table c.args.other ≡ true
 same c = sym c.alike.ensures ∙ c.if-not-alike.false
 
-ready : (c : Else-not-alike) → Pairs c.args.first.now c.args.table.degree c.args.second.now c.args.other.degree c.args.table.count
+ready : (c : Else-not-alike)
+    → Pairs c.args.first.now c.args.table.degree c.args.second.now c.args.other.degree c.args.table.count
 ready c = pairs _ _ _ _ c.requires (same c)
 
 pub returns-then-not-alike : goal.returns-then-not-alike
 returns-then-not-alike c = rw c.refused.ensures (unlike _ _ _ _ c.requires _ (sym c.alike.ensures ∙ c.if-not-alike.true))
 
 -- and past 8
-roomy : (c : Else-not-has_room) → leb (3 * length (changes_to (firsts (goal.at.Else-not-has_room c).Start) (seconds (goal.at.Else-not-has_room c).Start) c.args.table.count)) (length c.args.entries.now) ≡ true
+roomy : (c : Else-not-has_room)
+    → leb (3 * length
+    (changes_to (firsts (goal.at.Else-not-has_room c).Start) (seconds (goal.at.Else-not-has_room c).Start)
+    c.args.table.count)) (length c.args.entries.now) ≡ true
 roomy c = sym c.has_room.ensures ∙ c.if-not-has_room.false
 
 pub has_room-requires : goal.has_room-requires
@@ -43,7 +47,14 @@ returns-then-not-has_room c =
     (too_short _ _ _ _ c.requires _ (same (goal.at.returns-then-not-has_room c).Else-not-alike) (sym c.has_room.ensures ∙ c.if-not-has_room.true))
 
 pub put_changes-changes-requires : goal.put_changes-changes-requires
-put_changes-changes-requires c = record { pairs = ready (goal.at.put_changes-changes-requires c).Else-not-alike; room = leb-true _ _ (roomy (goal.at.put_changes-changes-requires c).Else-not-has_room) }
+put_changes-changes-requires c =
+    record {
+      pairs = ready (goal.at.put_changes-changes-requires c).Else-not-alike;
+      room =
+          leb-true _ _ (roomy (goal.at.put_changes-changes-requires c).Else-not-has_room);
+    }
 
 pub returns : goal.returns
-returns c = put_all _ _ _ _ c.requires _ (same (goal.at.returns c).Else-not-alike) (roomy (goal.at.returns c).Else-not-has_room) _ _ c.put_changes-changes.ensures
+returns c =
+    put_all _ _ _ _ c.requires _ (same (goal.at.returns c).Else-not-alike) (roomy (goal.at.returns c).Else-not-has_room) _ _
+    c.put_changes-changes.ensures

@@ -25,7 +25,8 @@ module _ (G k h : ℕ) (some : 1 ≤ k) (low : k < 256) (e : h ≡ granules_in G
   head_digit : (u : ℕ) → u < 8 → fixed_byte G k u ≡ byte_of (head_word h k) u
   unfolding fixed_byte head_byte
   head_digit =
-      let d = digits 2 1 h 0 k 0 0 0 (head_word h k) (omega arith) (omega arith) few (omega arith) low (omega arith) (omega arith) (omega arith) (omega arith) in
+      let d = digits 2 1 h 0 k 0 0 0 (head_word h k) (omega arith) (omega arith) few (omega arith) low (omega arith) (omega arith) (omega arith) (omega arith)
+      in
       pick8 (λ u. fixed_byte G k u ≡ byte_of (head_word h k) u)
       (rw other d.0) (rw other d.1) (rw (other, ← e) d.2) (rw other d.3) (rw other (first ∙ d.4)) (rw other (later.0 ∙ d.5))
       (rw other (later.1 ∙ d.6)) (rw other (later.2 ∙ d.7))

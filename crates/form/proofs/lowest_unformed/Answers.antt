@@ -48,8 +48,12 @@ loop-j-smaller c = let i = c.right_from-right.ensures.inside in omega (arith, c.
 pub loop-j-preserved : goal.loop-j-preserved
 loop-j-preserved c =
     let l = c.loop-j in
-    let k = c.blocks-2.k in
-    (l.invariant.0, c.right_from-right.ensures.inside, over_run c.args.count c.args.degree k (block c.args.bytes.now k) l.j _ l.invariant.2 c.right_from-right.ensures)
+    let k = c.blocks-2.k in (
+      l.invariant.0,
+      c.right_from-right.ensures.inside,
+      over_run c.args.count c.args.degree k (block c.args.bytes.now k) l.j _ l.invariant.2
+          c.right_from-right.ensures,
+    )
 
 pub overflow_step-k : goal.overflow_step-k
 overflow_step-k c = omega arith

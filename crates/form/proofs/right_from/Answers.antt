@@ -63,7 +63,9 @@ head_right-requires c =
     record { block = record { few = i.within.bounds.granules; other = above _ z; full = i.within.full }; long = i.long }
 
 pub returns-then-head_right : goal.returns-then-head_right
-returns-then-head_right c = head_run c.args.count c.args.degree c.args.k (block c.args.bytes.now c.args.k) c.args.j c.if-j-eq0.true (sym c.head_right.ensures ∙ c.if-head_right.true)
+returns-then-head_right c =
+    head_run c.args.count c.args.degree c.args.k (block c.args.bytes.now c.args.k) c.args.j c.if-j-eq0.true
+    (sym c.head_right.ensures ∙ c.if-head_right.true)
 
 pub free_from-free-requires : goal.free_from-free-requires
 free_from-free-requires c = c.requires.within

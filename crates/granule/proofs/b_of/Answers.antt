@@ -26,4 +26,6 @@ pub overflow_sub-result : goal.overflow_sub-result
 overflow_sub-result c = (all (goal.at.overflow_sub-result c).After-rounded29-product).term
 
 pub returns : goal.returns
-returns c = (all (goal.at.returns c).After-rounded29-product).is ∙ ap (λ (q : ℤ). c.args.c.0 +ℤ q -ℤ c.args.b2.0) (product (goal.at.returns c).After-rounded29-product)
+returns c =
+    (all (goal.at.returns c).After-rounded29-product).is
+    ∙ ap (λ (q : ℤ). c.args.c.0 +ℤ q -ℤ c.args.b2.0) (product (goal.at.returns c).After-rounded29-product)

@@ -17,13 +17,20 @@ pub overflow_sub-result : goal.overflow_sub-result
 overflow_sub-result c = rw (read_is c.args.c.0 (search rules)) (negative (goal.at.overflow_sub-result c).Then-c-lt0).fits
 
 pub overflow_cast-result : goal.overflow_cast-result
-overflow_cast-result c = rw (read_is c.args.c.0 (search rules), read_is _ (negative (goal.at.overflow_cast-result c).Then-c-lt0).fits) (negative (goal.at.overflow_cast-result c).Then-c-lt0).cast
+overflow_cast-result c =
+    rw (read_is c.args.c.0 (search rules), read_is _ (negative (goal.at.overflow_cast-result c).Then-c-lt0).fits)
+    (negative (goal.at.overflow_cast-result c).Then-c-lt0).cast
 
 pub overflow_add-result : goal.overflow_add-result
-overflow_add-result c = rw (read_is c.args.c.0 (search rules), read_is _ (negative (goal.at.overflow_add-result c).Then-c-lt0).fits) (record { fits = omega (arith, (negative (goal.at.overflow_add-result c).Then-c-lt0).sum.fits) })
+overflow_add-result c =
+    rw (read_is c.args.c.0 (search rules), read_is _ (negative (goal.at.overflow_add-result c).Then-c-lt0).fits)
+    (record { fits = omega (arith, (negative (goal.at.overflow_add-result c).Then-c-lt0).sum.fits) })
 
 pub overflow_cast-result-else-c-lt0 : goal.overflow_cast-result-else-c-lt0
-overflow_cast-result-else-c-lt0 c = rw (read_is c.args.c.0 (search rules)) (natural_cast _ (search rules) (lt_no _ _ (rw (read_is c.args.c.0 (search rules)) at c.if-c-lt0.false)))
+overflow_cast-result-else-c-lt0 c =
+    rw (read_is c.args.c.0 (search rules)) (natural_cast _ (search rules) (lt_no _ _ (rw (read_is c.args.c.0 (search rules)) at c.if-c-lt0.false)))
 
 pub returns-then-c-lt0 : goal.returns-then-c-lt0
-returns-then-c-lt0 c = rw (read_is c.args.c.0 (search rules), read_is _ (negative (goal.at.returns-then-c-lt0 c).Then-c-lt0).fits) (omega (arith, (negative (goal.at.returns-then-c-lt0 c).Then-c-lt0).is))
+returns-then-c-lt0 c =
+    rw (read_is c.args.c.0 (search rules), read_is _ (negative (goal.at.returns-then-c-lt0 c).Then-c-lt0).fits)
+    (omega (arith, (negative (goal.at.returns-then-c-lt0 c).Then-c-lt0).is))

@@ -25,11 +25,13 @@ unfolding is_small
 step cs k h = ap is_small (drop-cons cs k (pos 0) h)
 
 -- what the test of c_k says of all
-bad : (cs : List ℤ) (k : ℕ) → k < length cs → is_small (drop k cs) ≡ is_small cs → is_within (get_or cs k (pos 0)) ≡ false
+bad : (cs : List ℤ) (k : ℕ) → k < length cs → is_small (drop k cs) ≡ is_small cs → is_within (get_or cs k (pos 0))
+    ≡ false
     → false ≡ is_small cs
 bad cs k h e t = sym (step cs k h ∙ ap (λ (b : Bool). b && is_small (drop (suc k) cs)) t) ∙ e
 
-good : (cs : List ℤ) (k : ℕ) → k < length cs → is_small (drop k cs) ≡ is_small cs → is_within (get_or cs k (pos 0)) ≡ true
+good : (cs : List ℤ) (k : ℕ) → k < length cs → is_small (drop k cs) ≡ is_small cs → is_within (get_or cs k (pos 0))
+    ≡ true
     → is_small (drop (k + 1) cs) ≡ is_small cs
 good cs k h e t = rw (add-one k) (sym (step cs k h ∙ ap (λ (b : Bool). b && is_small (drop (suc k) cs)) t) ∙ e)
 

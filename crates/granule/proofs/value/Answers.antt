@@ -82,8 +82,15 @@ lower c =
     let k = c.loop-k.k in
     let l = c.loop-k.invariant in
     let more = c.loop-k-test.true in
-    (rw (made c.before.before.before.before.before.before.before, read_is (get_or c.args.coefficients.now (c.loop-k.k - 1) (pos 0)) (search rules), l.1, upper c.before.before) at c.b_of-b1.ensures)
-    ∙ sym (rw (suc_before k (omega (arith, more))) at (b_turn (u_of_lem (goal.at.After-b_of-b1 c).At-loop-k) (coefficients_of (goal.at.After-b_of-b1 c).At-loop-k) (k - 1) (omega (arith, l.0))))
+    (rw (
+      made c.before.before.before.before.before.before.before,
+      read_is (get_or c.args.coefficients.now (c.loop-k.k - 1) (pos 0)) (search rules),
+      l.1,
+      upper
+          c.before.before,
+    ) at c.b_of-b1.ensures)
+    ∙ sym (rw (suc_before k (omega (arith, more)))
+    at (b_turn (u_of_lem (goal.at.After-b_of-b1 c).At-loop-k) (coefficients_of (goal.at.After-b_of-b1 c).At-loop-k) (k - 1) (omega (arith, l.0))))
 
 one_left : (c : Else-k-eq0) → c.loop-k.k ≡ 1
 one_left c = omega (arith, c.if-k-eq0.false, c.loop-k-test.false)
@@ -95,7 +102,8 @@ last c =
     let one = one_left c.before.before in
     let e₁ = rw one at l.1 in
     let e₂ = rw one at l.2 in
-    (rw (made c.before.before.before.before.before.before.before, read_is (get_or c.args.coefficients.now 1 (pos 0)) (search rules), e₁, e₂) at c.b_of-b.ensures)
+    (rw (made c.before.before.before.before.before.before.before, read_is (get_or c.args.coefficients.now 1 (pos 0)) (search rules), e₁, e₂)
+    at c.b_of-b.ensures)
     ∙ sym (b_turn (u_of_lem (goal.at.After-b_of-b c).At-loop-k) (coefficients_of (goal.at.After-b_of-b c).At-loop-k) 1 (omega (arith, l.0)))
 
 pub overflow_sub-n : goal.overflow_sub-n
@@ -134,7 +142,13 @@ pub bounds-coefficients-k : goal.bounds-coefficients-k
 bounds-coefficients-k c = omega (arith, c.loop-k.invariant.0)
 
 pub b_of-b2-requires : goal.b_of-b2-requires
-b_of-b2-requires c = rw (made c.before.before.before.before, read_is (get_or c.args.coefficients.now c.loop-k.k (pos 0)) (search rules), c.loop-k.invariant.1, c.loop-k.invariant.2) (terms_of (goal.at.b_of-b2-requires c).At-loop-k c.loop-k.k)
+b_of-b2-requires c =
+    rw (
+      made c.before.before.before.before,
+      read_is (get_or c.args.coefficients.now c.loop-k.k (pos 0)) (search rules),
+      c.loop-k.invariant.1,
+      c.loop-k.invariant.2,
+    ) (terms_of (goal.at.b_of-b2-requires c).At-loop-k c.loop-k.k)
 
 pub bounds-coefficients-k-in-loop-k : goal.bounds-coefficients-k-in-loop-k
 bounds-coefficients-k-in-loop-k c = omega (arith, c.loop-k.invariant.0)
@@ -143,7 +157,12 @@ pub b_of-b1-requires : goal.b_of-b1-requires
 b_of-b1-requires c =
     let k = c.loop-k.k in
     let more = c.loop-k-test.true in
-    rw (made c.before.before.before.before.before.before, read_is (get_or c.args.coefficients.now (c.loop-k.k - 1) (pos 0)) (search rules), c.loop-k.invariant.1, upper c.before)
+    rw (
+      made c.before.before.before.before.before.before,
+      read_is (get_or c.args.coefficients.now (c.loop-k.k - 1) (pos 0)) (search rules),
+      c.loop-k.invariant.1,
+      upper c.before,
+    )
     (rw (suc_before k (omega (arith, more))) at (terms_of (goal.at.b_of-b1-requires c).At-loop-k (k - 1)))
 
 pub loop-k-preserved : goal.loop-k-preserved
@@ -162,7 +181,8 @@ v_of-requires c =
     let none : c.loop-k.k ≡ 0 = omega (arith, c.if-k-eq0.true) in
     let e₁ = rw none at c.loop-k.invariant.1 in
     let e₂ = rw none at c.loop-k.invariant.2 in
-    rw (made c.before.before.before.before.before, read_is (get_or c.args.coefficients.now 0 (pos 0)) (search rules), e₁, e₂) (terms_of (goal.at.v_of-requires c).At-loop-k 0)
+    rw (made c.before.before.before.before.before, read_is (get_or c.args.coefficients.now 0 (pos 0)) (search rules), e₁, e₂)
+    (terms_of (goal.at.v_of-requires c).At-loop-k 0)
 
 pub returns-then-k-eq0 : goal.returns-then-k-eq0
 returns-then-k-eq0 c =
@@ -180,15 +200,18 @@ b_of-b-requires c =
     let one = one_left c.before in
     let e₁ = rw one at c.loop-k.invariant.1 in
     let e₂ = rw one at c.loop-k.invariant.2 in
-    rw (made c.before.before.before.before.before.before, read_is (get_or c.args.coefficients.now 1 (pos 0)) (search rules), e₁, e₂) (terms_of (goal.at.b_of-b-requires c).At-loop-k 1)
+    rw (made c.before.before.before.before.before.before, read_is (get_or c.args.coefficients.now 1 (pos 0)) (search rules), e₁, e₂)
+    (terms_of (goal.at.b_of-b-requires c).At-loop-k 1)
 
 pub v_of-requires-2 : goal.v_of-requires-2
 v_of-requires-2 c =
     let e₁ = rw (one_left c.before.before) at c.loop-k.invariant.1 in
-    rw (made c.before.before.before.before.before.before.before, read_is (get_or c.args.coefficients.now 0 (pos 0)) (search rules), e₁, last c) (terms_of (goal.at.v_of-requires-2 c).At-loop-k 0)
+    rw (made c.before.before.before.before.before.before.before, read_is (get_or c.args.coefficients.now 0 (pos 0)) (search rules), e₁, last c)
+    (terms_of (goal.at.v_of-requires-2 c).At-loop-k 0)
 
 pub returns : goal.returns
 returns c =
     let e₁ = rw (one_left c.before.before.before) at c.loop-k.invariant.1 in
-    (rw (made c.before.before.before.before.before.before.before.before, read_is (get_or c.args.coefficients.now 0 (pos 0)) (search rules), e₁, last c.before) at c.v_of-2.ensures)
+    (rw (made c.before.before.before.before.before.before.before.before, read_is (get_or c.args.coefficients.now 0 (pos 0)) (search rules), e₁, last c.before)
+    at c.v_of-2.ensures)
     ∙ sym (end c.args.coefficients.now c.args.place c.args.length)

@@ -21,7 +21,9 @@ use Rattle.granule.proofs.Bounded.{terms}
 use Rattle.granule.proofs.value.Given as goal
 
 abbrev pub invariant-loop-k : goal.invariant-loop-k
-invariant-loop-k l = (suc l.k < length l.coefficients) × (l.b1.0 ≡ b_at (u_of (p_of l.place l.length) l.length) l.coefficients (suc l.k)) × (l.b2.0 ≡ b_at (u_of (p_of l.place l.length) l.length) l.coefficients (suc (suc l.k)))
+invariant-loop-k l =
+    (suc l.k < length l.coefficients) × (l.b1.0 ≡ b_at (u_of (p_of l.place l.length) l.length) l.coefficients (suc l.k))
+    × (l.b2.0 ≡ b_at (u_of (p_of l.place l.length) l.length) l.coefficients (suc (suc l.k)))
 
 abbrev pub decreases-loop-k : goal.decreases-loop-k
 decreases-loop-k l = l.k

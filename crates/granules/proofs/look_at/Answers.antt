@@ -51,10 +51,12 @@ plain-sum-requires c = summable (goal.at.plain-sum-requires c).Else-own-eq0
 
 pub returns-then-rank-scan : goal.returns-then-rank-scan
 returns-then-rank-scan c =
-    lower c.args.scan c.args.g c.args.length _ c.args.coefficients.now _ _ c.own_rank-own.ensures (own_some (goal.at.returns-then-rank-scan c).Else-own-eq0) c.rank_of-rank.ensures c.plain-sum.ensures
+    lower c.args.scan c.args.g c.args.length _ c.args.coefficients.now _ _ c.own_rank-own.ensures (own_some (goal.at.returns-then-rank-scan c).Else-own-eq0)
+    c.rank_of-rank.ensures c.plain-sum.ensures
     c.if-rank-scan.true
 
 pub returns : goal.returns
 returns c =
-    still c.args.scan c.args.g c.args.length _ c.args.coefficients.now _ _ c.own_rank-own.ensures (own_some (goal.at.returns c).Else-own-eq0) c.rank_of-rank.ensures c.plain-sum.ensures
+    still c.args.scan c.args.g c.args.length _ c.args.coefficients.now _ _ c.own_rank-own.ensures (own_some (goal.at.returns c).Else-own-eq0)
+    c.rank_of-rank.ensures c.plain-sum.ensures
     c.if-rank-scan.false

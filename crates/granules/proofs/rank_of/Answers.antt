@@ -22,7 +22,13 @@ returns-then-g-eq0 c = simp (le-ltb _ _ c.if-own-lt-JOIN.false, eq-eqb _ _ c.if-
 
 pub returns-then-joined : goal.returns-then-joined
 unfolding joined_rank
-returns-then-joined c = simp (le-ltb _ _ c.if-own-lt-JOIN.false, ne_eqb _ _ c.if-g-eq0.false, sym (test_is (goal.at.returns-then-joined c).After-joined) ∙ c.if-joined.true)
+returns-then-joined c =
+    simp (
+      le-ltb _ _ c.if-own-lt-JOIN.false,
+      ne_eqb _ _ c.if-g-eq0.false,
+      sym (test_is (goal.at.returns-then-joined c).After-joined)
+          ∙ c.if-joined.true,
+    )
 
 pub returns : goal.returns
 unfolding joined_rank

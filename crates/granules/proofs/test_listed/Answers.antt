@@ -81,7 +81,8 @@ pub returns-in-Lowest : goal.returns-in-Lowest
 unfolding tested_listed
 returns-in-Lowest c =
     scanned_lowest _ _ c.loop-g.g c.loop-g.scan _ (alike_same (own c.args.coefficients.now c.args.table.degree c.loop-g.g))
-    c.loop-g.invariant.1 c.args.table (ap nat_abs (to_z-of_z w64 c.args.table.length (search rules))) c.loop-g-test.true (sym c.look_at.ensures ∙ c.in-Lowest.is) _
+    c.loop-g.invariant.1 c.args.table (ap nat_abs (to_z-of_z w64 c.args.table.length (search rules))) c.loop-g-test.true
+    (sym c.look_at.ensures ∙ c.in-Lowest.is) _
     c.told.ensures
 
 pub loop-g-smaller : goal.loop-g-smaller

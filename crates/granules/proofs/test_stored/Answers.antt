@@ -49,7 +49,8 @@ look_at-requires c = record { short = le_of_eq (sixteen (goal.at.look_at-require
 pub returns-in-Lowest : goal.returns-in-Lowest
 unfolding tested_stored
 returns-in-Lowest c =
-    scanned_lowest _ _ c.loop-g.g c.loop-g.scan _ (own (goal.at.returns-in-Lowest c).After-stored-all) c.loop-g.invariant.1 c.args.table (ap nat_abs (to_z-of_z w64 c.args.table.length (search rules)))
+    scanned_lowest _ _ c.loop-g.g c.loop-g.scan _ (own (goal.at.returns-in-Lowest c).After-stored-all) c.loop-g.invariant.1 c.args.table
+    (ap nat_abs (to_z-of_z w64 c.args.table.length (search rules)))
     c.loop-g-test.true (sym c.look_at.ensures ∙ c.in-Lowest.is) _ c.told.ensures
 
 pub loop-g-smaller : goal.loop-g-smaller
@@ -58,7 +59,8 @@ loop-g-smaller c = omega arith
 pub loop-g-preserved : goal.loop-g-preserved
 loop-g-preserved c = (
   omega arith,
-  scanned_next _ _ c.loop-g.g c.loop-g.scan _ (own (goal.at.loop-g-preserved c).After-stored-all) c.loop-g.invariant.1 _ (sym c.look_at.ensures ∙ c.in-Onward.is),
+  scanned_next _ _ c.loop-g.g c.loop-g.scan _ (own (goal.at.loop-g-preserved c).After-stored-all) c.loop-g.invariant.1 _
+      (sym c.look_at.ensures ∙ c.in-Onward.is),
 )
 
 pub returns : goal.returns

@@ -18,7 +18,8 @@ module _ (b : List ℕ) (at : ℕ) where
   of_part : (u : ℕ) → u < 4 → get_or part u 0 ≡ from b at u
   of_part u h = get_or-take (at + 4 - at) (drop at b) u 0 (omega arith) ∙ get_or-drop at b u 0
 
-  all_four : (b0 b1 b2 b3 : ℕ) → b0 ≡ get_or part 0 0 → b1 ≡ get_or part 1 0 → b2 ≡ get_or part 2 0 → b3 ≡ get_or part 3 0
+  all_four : (b0 b1 b2 b3 : ℕ) → b0 ≡ get_or part 0 0 → b1 ≡ get_or part 1 0 → b2 ≡ get_or part 2 0 → b3
+      ≡ get_or part 3 0
       → b0 + 256 * b1 + 65536 * b2 + 16777216 * b3 ≡ quad_at b at
   all_four b0 b1 b2 b3 e0 e1 e2 e3 =
       let z : b0 ≡ get_or b at 0 = e0 ∙ of_part 0 (omega arith) ∙ ap (λ (x : ℕ). get_or b x 0) (add-zero at) in

@@ -12,7 +12,8 @@ module _ (b : List ℕ) (at : ℕ) where
   further : (i j : ℕ) → 4 + i ≡ j → at + 4 + i ≡ at + j
   further i j e = omega (arith, e)
 
-  four_and_four : (low high : ℕ) → low ≡ quad_at b at → high ≡ quad_at b (at + 4) → low + 4294967296 * high ≡ word_at b at
+  four_and_four : (low high : ℕ) → low ≡ quad_at b at → high ≡ quad_at b (at + 4) → low + 4294967296 * high
+      ≡ word_at b at
   four_and_four low high a z =
       rw (a, z, further 1 5 (omega arith), further 2 6 (omega arith), further 3 7 (omega arith)) (omega arith)
 

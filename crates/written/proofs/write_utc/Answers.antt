@@ -41,7 +41,9 @@ unfolding write_utc_of
 by_written from to reading leaps bytes e w = rw (e, w)
 
 pub write-requires : goal.write-requires
-write-requires c = rw (to_z-of_z w64 c.in-Converted.epoch.tick (record { sfits = search rules })) (to_write _ _ _ _ _ (sym c.convert_into.ensures ∙ c.in-Converted.is))
+write-requires c =
+    rw (to_z-of_z w64 c.in-Converted.epoch.tick (record { sfits = search rules }))
+    (to_write _ _ _ _ _ (sym c.convert_into.ensures ∙ c.in-Converted.is))
 
 -- the tick, written
 pub returns-in-Utc : goal.returns-in-Utc

@@ -33,11 +33,15 @@ judged_is b = refl
 is_whole_lem : (c : Else-not-whole) → is_whole (length c.args.bytes.now) ≡ true
 is_whole_lem c = sym c.whole.ensures ∙ c.if-not-whole.false
 
-by_first : (c : Else-unchecked-blocks) (t : Table) → judged_by (table_tests c.args.bytes.now t) t ≡ judged_by (from_first c.args.bytes.now t) t
-by_first c t = past11 c.args.bytes.now t (past10 c.args.bytes.now t (is_whole_lem (goal.at.Else-unchecked-blocks c).Else-not-whole)) _ c.lowest_unchecked-unchecked.ensures c.if-unchecked-blocks.false
+by_first : (c : Else-unchecked-blocks) (t : Table) → judged_by (table_tests c.args.bytes.now t) t
+    ≡ judged_by (from_first c.args.bytes.now t) t
+by_first c t =
+    past11 c.args.bytes.now t (past10 c.args.bytes.now t (is_whole_lem (goal.at.Else-unchecked-blocks c).Else-not-whole)) _
+    c.lowest_unchecked-unchecked.ensures c.if-unchecked-blocks.false
 
 -- block 0 is looked at alone, so that it is formed where the lowest that is not is 1
-first_formed : (c : After-lowest_unformed) → 1 ≤ c.lowest_unformed.result → is_formed 0 0 0 (block c.args.bytes.now 0) ≡ true
+first_formed : (c : After-lowest_unformed) → 1 ≤ c.lowest_unformed.result → is_formed 0 0 0 (block c.args.bytes.now 0)
+    ≡ true
 first_formed c h = one_go (λ k. is_formed 0 0 k (block c.args.bytes.now k)) _ c.lowest_unformed.ensures h
 
 by13 : (c : After-lowest_unformed) (t : Table) → 1 ≤ c.lowest_unformed.result
@@ -45,7 +49,9 @@ by13 : (c : After-lowest_unformed) (t : Table) → 1 ≤ c.lowest_unformed.resul
 by13 c t h = past_first c.args.bytes.now t (by_first (goal.at.After-lowest_unformed c).Else-unchecked-blocks t) (first_formed c h)
 
 -- the answer over the table in hand is that over the bytes' own
-same_judged : (c : After-bounded) → judged_by (table_tests c.args.bytes.now c.table_of-table.result) c.table_of-table.result ≡ judged c.args.bytes.now
+same_judged : (c : After-bounded)
+    → judged_by (table_tests c.args.bytes.now c.table_of-table.result) c.table_of-table.result
+    ≡ judged c.args.bytes.now
 same_judged c = ap (λ (t : Table). judged_by (table_tests c.args.bytes.now t) t) c.table_of-table.ensures ∙ judged_is c.args.bytes.now
 
 is_bounded_lem : (c : Else-not-bounded) → is_bounded c.table_of-table.result ≡ true
@@ -54,7 +60,9 @@ is_bounded_lem c = sym c.bounded.ensures ∙ c.if-not-bounded.false
 by12 : (c : Else-blocks-count)
     → judged_by (table_tests c.args.bytes.now c.table_of-table.result) c.table_of-table.result
     ≡ judged_by (from12 c.args.bytes.now c.table_of-table.result) c.table_of-table.result
-by12 c = past13 c.args.bytes.now c.table_of-table.result (by13 (goal.at.Else-blocks-count c).After-lowest_unformed c.table_of-table.result (omega arith)) (is_bounded_lem (goal.at.Else-blocks-count c).Else-not-bounded) c.if-blocks-count.false
+by12 c =
+    past13 c.args.bytes.now c.table_of-table.result (by13 (goal.at.Else-blocks-count c).After-lowest_unformed c.table_of-table.result (omega arith))
+    (is_bounded_lem (goal.at.Else-blocks-count c).Else-not-bounded) c.if-blocks-count.false
 
 pub returns-then-not-whole : goal.returns-then-not-whole
 returns-then-not-whole c =
@@ -68,7 +76,8 @@ pub returns-then-unchecked-blocks : goal.returns-then-unchecked-blocks
 returns-then-unchecked-blocks c =
     let b = c.args.bytes.now in
     c.refused-then-unchecked-blocks.ensures
-    ∙ refused11 b (table_of b) (past10 b (table_of b) (is_whole_lem (goal.at.returns-then-unchecked-blocks c).Else-not-whole)) _ c.lowest_unchecked-unchecked.ensures c.if-unchecked-blocks.true
+    ∙ refused11 b (table_of b) (past10 b (table_of b) (is_whole_lem (goal.at.returns-then-unchecked-blocks c).Else-not-whole)) _
+    c.lowest_unchecked-unchecked.ensures c.if-unchecked-blocks.true
     ∙ judged_is b
 
 pub lowest_unformed-requires : goal.lowest_unformed-requires
@@ -88,15 +97,22 @@ table_of-table-requires c = let w = whole_told _ (is_whole_lem (goal.at.table_of
 pub returns-then-not-bounded : goal.returns-then-not-bounded
 returns-then-not-bounded c =
     c.refused-then-not-bounded.ensures
-    ∙ refused13_bound c.args.bytes.now c.table_of-table.result (by13 (goal.at.returns-then-not-bounded c).After-lowest_unformed c.table_of-table.result (omega arith)) (sym c.bounded.ensures ∙ c.if-not-bounded.true)
+    ∙ refused13_bound c.args.bytes.now c.table_of-table.result
+    (by13 (goal.at.returns-then-not-bounded c).After-lowest_unformed c.table_of-table.result (omega arith)) (sym c.bounded.ensures ∙ c.if-not-bounded.true)
     ∙ same_judged (goal.at.returns-then-not-bounded c).After-bounded
 
 pub returns-then-blocks-count : goal.returns-then-blocks-count
-returns-then-blocks-count c = c.refused-then-blocks-count.ensures ∙ refused13_blocks c.args.bytes.now c.table_of-table.result (by13 (goal.at.returns-then-blocks-count c).After-lowest_unformed c.table_of-table.result (omega arith)) (is_bounded_lem (goal.at.returns-then-blocks-count c).Else-not-bounded) c.if-blocks-count.true ∙ same_judged (goal.at.returns-then-blocks-count c).After-bounded
+returns-then-blocks-count c =
+    c.refused-then-blocks-count.ensures
+    ∙ refused13_blocks c.args.bytes.now c.table_of-table.result
+    (by13 (goal.at.returns-then-blocks-count c).After-lowest_unformed c.table_of-table.result (omega arith))
+    (is_bounded_lem (goal.at.returns-then-blocks-count c).Else-not-bounded) c.if-blocks-count.true
+    ∙ same_judged (goal.at.returns-then-blocks-count c).After-bounded
 
 pub lowest_unformed-unformed-requires : goal.lowest_unformed-unformed-requires
 lowest_unformed-unformed-requires c =
-    search_for c.args.bytes.now c.table_of-table.result (whole_told _ (is_whole_lem (goal.at.lowest_unformed-unformed-requires c).Else-not-whole)) (bounds_told c.table_of-table.result (is_bounded_lem (goal.at.lowest_unformed-unformed-requires c).Else-not-bounded))
+    search_for c.args.bytes.now c.table_of-table.result (whole_told _ (is_whole_lem (goal.at.lowest_unformed-unformed-requires c).Else-not-whole))
+    (bounds_told c.table_of-table.result (is_bounded_lem (goal.at.lowest_unformed-unformed-requires c).Else-not-bounded))
     c.if-blocks-count.false (first_formed (goal.at.lowest_unformed-unformed-requires c).After-lowest_unformed (omega arith))
 
 pub test_stored-requires : goal.test_stored-requires
@@ -114,10 +130,12 @@ returns c =
     c.tested.ensures
     ∙ ap (judged_tested c.table_of-table.result) c.test_stored.ensures
     ∙ tested_is (from14 c.args.bytes.now c.table_of-table.result) c.table_of-table.result
-    ∙ sym (past12 c.args.bytes.now c.table_of-table.result (by12 (goal.at.returns c).Else-blocks-count) _ c.lowest_unformed-unformed.ensures (omega arith)) ∙ same_judged (goal.at.returns c).After-bounded
+    ∙ sym (past12 c.args.bytes.now c.table_of-table.result (by12 (goal.at.returns c).Else-blocks-count) _ c.lowest_unformed-unformed.ensures (omega arith))
+    ∙ same_judged (goal.at.returns c).After-bounded
 
 pub returns-then-unformed-blocks : goal.returns-then-unformed-blocks
 returns-then-unformed-blocks c =
     c.refused-then-unformed-blocks.ensures
-    ∙ refused12 c.args.bytes.now c.table_of-table.result (by12 (goal.at.returns-then-unformed-blocks c).Else-blocks-count) _ c.lowest_unformed-unformed.ensures (omega arith)
+    ∙ refused12 c.args.bytes.now c.table_of-table.result (by12 (goal.at.returns-then-unformed-blocks c).Else-blocks-count) _
+    c.lowest_unformed-unformed.ensures (omega arith)
     ∙ same_judged (goal.at.returns-then-unformed-blocks c).After-bounded

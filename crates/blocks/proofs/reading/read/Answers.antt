@@ -26,7 +26,10 @@ pub overflow_mul-count : goal.overflow_mul-count
 overflow_mul-count c = omega (arith, room c.in-Accepted.table.count c.in-Accepted.table.degree (accepted (goal.at.overflow_mul-count c).In-Accepted).bounds.few)
 
 pub returns-then-coefficients-count : goal.returns-then-coefficients-count
-returns-then-coefficients-count c = rw c.refused.ensures (read_unfit c.args.bytes.now c.args.coefficients.now c.in-Accepted.table (is_accepted (goal.at.returns-then-coefficients-count c).In-Accepted) c.if-coefficients-count.true)
+returns-then-coefficients-count c =
+    rw c.refused.ensures
+    (read_unfit c.args.bytes.now c.args.coefficients.now c.in-Accepted.table (is_accepted (goal.at.returns-then-coefficients-count c).In-Accepted)
+    c.if-coefficients-count.true)
 
 pub take_coefficients-requires : goal.take_coefficients-requires
 take_coefficients-requires c =
@@ -40,4 +43,6 @@ pub returns-in-Refused : goal.returns-in-Refused
 returns-in-Refused c = read_table_refused c.args.bytes.now c.args.coefficients.now _ (sym c.judge.ensures ∙ c.in-Refused.is)
 
 pub returns-else-coefficients-count : goal.returns-else-coefficients-count
-returns-else-coefficients-count c = read_done c.args.bytes.now c.args.coefficients.now c.in-Accepted.table (is_accepted (goal.at.returns-else-coefficients-count c).In-Accepted) _ c.if-coefficients-count.false c.take_coefficients.ensures
+returns-else-coefficients-count c =
+    read_done c.args.bytes.now c.args.coefficients.now c.in-Accepted.table (is_accepted (goal.at.returns-else-coefficients-count c).In-Accepted) _
+    c.if-coefficients-count.false c.take_coefficients.ensures

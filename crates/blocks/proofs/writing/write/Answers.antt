@@ -37,32 +37,44 @@ returns-then-coefficients-granules c =
 pub returns-then-image-granules : goal.returns-then-image-granules
 returns-then-image-granules c =
     rw c.refused-then-image-granules.ensures (wrote_refused (table (goal.at.returns-then-image-granules c).Start) c.args.coefficients.now c.args.image.now _
-    (unfit_buffer (table (goal.at.returns-then-image-granules c).Start) c.args.coefficients.now c.args.image.now c.if-coefficients-granules.false c.if-image-granules.true))
+    (unfit_buffer (table (goal.at.returns-then-image-granules c).Start) c.args.coefficients.now c.args.image.now c.if-coefficients-granules.false
+    c.if-image-granules.true))
 
 pub returns-then-not-bounded : goal.returns-then-not-bounded
 returns-then-not-bounded c =
     rw c.refused-then-not-bounded.ensures (wrote_refused (table (goal.at.returns-then-not-bounded c).Start) c.args.coefficients.now c.args.image.now _
-    (unbounded (table (goal.at.returns-then-not-bounded c).Start) c.args.coefficients.now c.args.image.now c.if-coefficients-granules.false c.if-image-granules.false
+    (unbounded (table (goal.at.returns-then-not-bounded c).Start) c.args.coefficients.now c.args.image.now c.if-coefficients-granules.false
+    c.if-image-granules.false
     (rw (length_back (goal.at.returns-then-not-bounded c).Start) at (sym c.bounded.ensures ∙ c.if-not-bounded.true))))
 
 pub test_listed-requires : goal.test_listed-requires
-test_listed-requires c = rw (length_back (goal.at.test_listed-requires c).Start) (record { bounds = bounds_told _ (is_bounded_lem c); whole = c.if-coefficients-granules.false })
+test_listed-requires c =
+    rw (length_back (goal.at.test_listed-requires c).Start)
+    (record { bounds = bounds_told _ (is_bounded_lem c); whole = c.if-coefficients-granules.false })
 
 pub put_image-requires : goal.put_image-requires
 put_image-requires c =
     rw (length_back (goal.at.put_image-requires c).Start)
-    (record { table = record { bounds = bounds_told _ (is_bounded_lem (goal.at.put_image-requires c).Else-not-bounded); whole = c.if-coefficients-granules.false }; long = c.if-image-granules.false })
+    (record {
+      table =
+          record { bounds = bounds_told _ (is_bounded_lem (goal.at.put_image-requires c).Else-not-bounded); whole = c.if-coefficients-granules.false };
+      long =
+          c.if-image-granules.false;
+    })
 
 pub returns-in-Refused : goal.returns-in-Refused
 returns-in-Refused c =
     let same = rw (length_back (goal.at.returns-in-Refused c).Start) at c.test_listed.ensures in
     wrote_refused (table (goal.at.returns-in-Refused c).Start) c.args.coefficients.now c.args.image.now _
-    (by_refused (table (goal.at.returns-in-Refused c).Start) c.args.coefficients.now c.args.image.now c.if-coefficients-granules.false c.if-image-granules.false (is_bounded_lem (goal.at.returns-in-Refused c).Else-not-bounded) _
+    (by_refused (table (goal.at.returns-in-Refused c).Start) c.args.coefficients.now c.args.image.now c.if-coefficients-granules.false
+    c.if-image-granules.false (is_bounded_lem (goal.at.returns-in-Refused c).Else-not-bounded) _
     (sym c.in-Refused.is ∙ same))
 
 pub returns-in-Passed : goal.returns-in-Passed
 returns-in-Passed c =
     let same = rw (length_back (goal.at.returns-in-Passed c).Start) at c.test_listed.ensures in
     let put = rw (length_back (goal.at.returns-in-Passed c).Start) at c.put_image.ensures in
-    rw (length_back (goal.at.returns-in-Passed c).Start) (wrote_done (table (goal.at.returns-in-Passed c).Start) c.args.coefficients.now c.args.image.now c.if-coefficients-granules.false c.if-image-granules.false (is_bounded_lem (goal.at.returns-in-Passed c).Else-not-bounded) _
+    rw (length_back (goal.at.returns-in-Passed c).Start)
+    (wrote_done (table (goal.at.returns-in-Passed c).Start) c.args.coefficients.now c.args.image.now c.if-coefficients-granules.false
+    c.if-image-granules.false (is_bounded_lem (goal.at.returns-in-Passed c).Else-not-bounded) _
     (sym c.in-Passed.is ∙ same) put)

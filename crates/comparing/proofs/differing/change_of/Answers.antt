@@ -18,7 +18,8 @@ use Rattle.comparing.proofs.differing.change_of.Goals.{After-apart-by, In-loop-k
 by : (c : After-apart-by)
     → let s = c.args in
     c.apart-by.result
-    ≡ difference_at (granule_stored s.first.now s.degree s.granule) (granule_stored s.second.now s.other s.granule) c.loop-k.k
+    ≡ difference_at (granule_stored s.first.now s.degree s.granule) (granule_stored s.second.now s.other s.granule)
+    c.loop-k.k
 by c =
     c.apart-by.ensures ∙ rw (c.coefficient_or_zero-c.ensures, c.coefficient_or_zero-d.ensures)
 
@@ -51,7 +52,13 @@ overflow_add-sum c =
     let p = c.requires in
     let k = c.loop-k.k in
     record {
-      fits = omega (arith, by (goal.at.overflow_add-sum c).After-apart-by, difference_small _ _ _ _ _ p k, sum_small _ _ _ _ _ p k (omega (arith, few (goal.at.overflow_add-sum c).In-loop-k)));
+      fits = omega (
+        arith,
+        by (goal.at.overflow_add-sum c).After-apart-by,
+        difference_small _ _ _ _ _ p k,
+        sum_small _ _ _ _ _ p k
+            (omega (arith, few (goal.at.overflow_add-sum c).In-loop-k)),
+      );
     }
 
 pub loop-k-preserved : goal.loop-k-preserved

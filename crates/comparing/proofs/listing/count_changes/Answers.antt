@@ -26,7 +26,16 @@ change_of-change-requires c = c.requires.each c.loop-g.g c.loop-g-test.true
 pub overflow_add-changes : goal.overflow_add-changes
 overflow_add-changes c =
     let l = c.loop-g in
-    record { fits = omega (arith, at_most (firsts (goal.at.overflow_add-changes c).Start) (seconds (goal.at.overflow_add-changes c).Start) l.g, l.invariant.1, c.loop-g-test.true, c.requires.few) }
+    record {
+      fits =
+          omega (
+            arith,
+            at_most (firsts (goal.at.overflow_add-changes c).Start) (seconds (goal.at.overflow_add-changes c).Start) l.g,
+            l.invariant.1,
+            c.loop-g-test.true,
+            c.requires.few,
+          );
+    }
 
 pub loop-g-preserved : goal.loop-g-preserved
 loop-g-preserved c =
@@ -36,7 +45,8 @@ loop-g-preserved c =
       omega arith,
       elim c.if-change-gt0.branch [
         | then-change-gt0 w ↦ w.changes-is ∙ rw l.invariant.1 (sym (length_added (firsts s) (seconds s) l.g found.result found.ensures w.if-change-gt0.true))
-        | else-change-gt0 w ↦ w.changes-is ∙ l.invariant.1 ∙ ap length (sym (none_added (firsts s) (seconds s) l.g found.result found.ensures w.if-change-gt0.false))
+        | else-change-gt0 w ↦ w.changes-is ∙ l.invariant.1
+            ∙ ap length (sym (none_added (firsts s) (seconds s) l.g found.result found.ensures w.if-change-gt0.false))
       ],
     )
 

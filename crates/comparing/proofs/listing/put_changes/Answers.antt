@@ -35,7 +35,12 @@ long : (c : At-loop-g)
     → length c.loop-g.entries ≡ length c.args.entries.now
 long c =
     rw c.loop-g.invariant.2
-    (put_length _ _ (omega (arith, grows (firsts (goal.at.At-loop-g c).Start) (seconds (goal.at.At-loop-g c).Start) c.loop-g.g c.args.count c.loop-g.invariant.0, c.requires.room)))
+    (put_length _ _
+    (omega (
+      arith,
+      grows (firsts (goal.at.At-loop-g c).Start) (seconds (goal.at.At-loop-g c).Start) c.loop-g.g c.args.count c.loop-g.invariant.0,
+      c.requires.room,
+    )))
 
 pub loop-g-init : goal.loop-g-init
 loop-g-init c = rw (changes_none (firsts (goal.at.loop-g-init c).Start) (seconds (goal.at.loop-g-init c).Start)) (zero-le, refl, sym (put_none _))

@@ -48,9 +48,11 @@ overflow_sub-result c = minus_fits (digits (goal.at.overflow_sub-result c).Start
 
 pub returns-then-bits-ge9223372036854775808 : goal.returns-then-bits-ge9223372036854775808
 returns-then-bits-ge9223372036854775808 c =
-    let a = taken_apart (x (goal.at.returns-then-bits-ge9223372036854775808 c).Start) (held (goal.at.returns-then-bits-ge9223372036854775808 c).Start) c.requires in
+    let a = taken_apart (x (goal.at.returns-then-bits-ge9223372036854775808 c).Start) (held (goal.at.returns-then-bits-ge9223372036854775808 c).Start)
+    c.requires in
     rw (minus_is (digits (goal.at.returns-then-bits-ge9223372036854775808 c).Start) (few (goal.at.returns-then-bits-ge9223372036854775808 c).Start))
-    (rw (is_true (leb (2 ^ 63) (bits (goal.at.returns-then-bits-ge9223372036854775808 c).Start)) (le→leb (2 ^ 63) (bits (goal.at.returns-then-bits-ge9223372036854775808 c).Start) c.if-bits-ge9223372036854775808.true)) at a)
+    (rw (is_true (leb (2 ^ 63) (bits (goal.at.returns-then-bits-ge9223372036854775808 c).Start))
+    (le→leb (2 ^ 63) (bits (goal.at.returns-then-bits-ge9223372036854775808 c).Start) c.if-bits-ge9223372036854775808.true)) at a)
 
 pub overflow_cast-result-2 : goal.overflow_cast-result-2
 overflow_cast-result-2 c = record { sfits = few (goal.at.overflow_cast-result-2 c).Start }
@@ -59,4 +61,5 @@ pub returns : goal.returns
 returns c =
     let a = taken_apart (x (goal.at.returns c).Start) (held (goal.at.returns c).Start) c.requires in
     rw (to_z_pos w64 (digits (goal.at.returns c).Start) (few (goal.at.returns c).Start))
-    (rw (is_false (leb (2 ^ 63) (bits (goal.at.returns c).Start)) (lt→nleb (2 ^ 63) (bits (goal.at.returns c).Start) c.if-bits-ge9223372036854775808.false)) at a)
+    (rw (is_false (leb (2 ^ 63) (bits (goal.at.returns c).Start)) (lt→nleb (2 ^ 63) (bits (goal.at.returns c).Start) c.if-bits-ge9223372036854775808.false))
+    at a)

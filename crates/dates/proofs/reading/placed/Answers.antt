@@ -55,7 +55,8 @@ module _ (s : Start) where
     product_is = read_is (read units *ℤ read per) product_fits ∙ rw (units_are, per_is)
 
     sum_fits : SFits w64 (read (read units *ℤ read per) +ℤ read ticks)
-    sum_fits = rw (product_is, ticks_are) (fits_small (units *ℤ per +ℤ ticks) 8650000000000000000 (size-+ (units *ℤ per) ticks l s.requires.span_within.rest) (lit< tt))
+    sum_fits = rw (product_is, ticks_are) (fits_small (units *ℤ per +ℤ ticks) 8650000000000000000 (size-+ (units *ℤ per) ticks l s.requires.span_within.rest)
+        (lit< tt))
 
     sum_is : read (read (read units *ℤ read per) +ℤ read ticks) ≡ per *ℤ units +ℤ ticks
     sum_is = read_is (read (read units *ℤ read per) +ℤ read ticks) sum_fits ∙ rw (product_is, ticks_are, *ℤ_comm units per)
@@ -63,7 +64,9 @@ module _ (s : Start) where
 pub returns-then-units-most : goal.returns-then-units-most
 returns-then-units-most c =
     c.refused.ensures
-    ∙ sym (too_late (per (goal.at.returns-then-units-most c).Start) (most (goal.at.returns-then-units-most c).Start) c.requires.reach c.args.span c.requires.span_within (lt_yes _ _ (rw (units_are (goal.at.returns-then-units-most c).Start, most_is (goal.at.returns-then-units-most c).Start) at c.if-units-most.true)))
+    ∙ sym (too_late (per (goal.at.returns-then-units-most c).Start) (most (goal.at.returns-then-units-most c).Start) c.requires.reach c.args.span
+    c.requires.span_within
+    (lt_yes _ _ (rw (units_are (goal.at.returns-then-units-most c).Start, most_is (goal.at.returns-then-units-most c).Start) at c.if-units-most.true)))
 
 pub overflow_sub-most : goal.overflow_sub-most
 overflow_sub-most c = minus_fits (goal.at.overflow_sub-most c).Start
@@ -71,12 +74,17 @@ overflow_sub-most c = minus_fits (goal.at.overflow_sub-most c).Start
 pub returns-then-units-most-2 : goal.returns-then-units-most-2
 returns-then-units-most-2 c =
     c.refused-then-units-most-2.ensures
-    ∙ sym (too_early (per (goal.at.returns-then-units-most-2 c).Start) (most (goal.at.returns-then-units-most-2 c).Start) c.requires.reach c.args.span c.requires.span_within (lt_yes _ _ (rw (units_are (goal.at.returns-then-units-most-2 c).Start, minus_is (goal.at.returns-then-units-most-2 c).Start) at c.if-units-most-2.true)))
+    ∙ sym (too_early (per (goal.at.returns-then-units-most-2 c).Start) (most (goal.at.returns-then-units-most-2 c).Start) c.requires.reach c.args.span
+    c.requires.span_within
+    (lt_yes _ _ (rw (units_are (goal.at.returns-then-units-most-2 c).Start, minus_is (goal.at.returns-then-units-most-2 c).Start) at c.if-units-most-2.true)))
 
 few : (c : Else-units-most-2)
-    → nat_abs (units (goal.at.Else-units-most-2 c).Start *ℤ per (goal.at.Else-units-most-2 c).Start) ≤ 8640000000000000000
+    → nat_abs (units (goal.at.Else-units-most-2 c).Start *ℤ per (goal.at.Else-units-most-2 c).Start)
+    ≤ 8640000000000000000
 few c =
-    units_size (per (goal.at.Else-units-most-2 c).Start) (most (goal.at.Else-units-most-2 c).Start) c.requires.reach (units (goal.at.Else-units-most-2 c).Start) (lt_no _ _ (rw (units_are (goal.at.Else-units-most-2 c).Start, most_is (goal.at.Else-units-most-2 c).Start) at c.if-units-most.false))
+    units_size (per (goal.at.Else-units-most-2 c).Start) (most (goal.at.Else-units-most-2 c).Start) c.requires.reach
+    (units (goal.at.Else-units-most-2 c).Start)
+    (lt_no _ _ (rw (units_are (goal.at.Else-units-most-2 c).Start, most_is (goal.at.Else-units-most-2 c).Start) at c.if-units-most.false))
     (lt_no _ _ (rw (units_are (goal.at.Else-units-most-2 c).Start, minus_is (goal.at.Else-units-most-2 c).Start) at c.if-units-most-2.false))
 
 pub overflow_mul-units : goal.overflow_mul-units

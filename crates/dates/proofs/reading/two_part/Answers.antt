@@ -62,7 +62,12 @@ unfolding read_of_parts
 returns c =
     let x = c.args.first in
     let y = c.args.second in
-    rw (finite_then most_days x (pass (goal.at.returns c).Else-not-both_pass).0, finite_then most_days y (pass (goal.at.returns c).Else-not-both_pass).1, within_then most_days x (pass (goal.at.returns c).Else-not-both_pass).0, within_then most_days y (pass (goal.at.returns c).Else-not-both_pass).1)
+    rw (
+      finite_then most_days x (pass (goal.at.returns c).Else-not-both_pass).0,
+      finite_then most_days y (pass (goal.at.returns c).Else-not-both_pass).1,
+      within_then most_days x (pass (goal.at.returns c).Else-not-both_pass).0,
+      within_then most_days y (pass (goal.at.returns c).Else-not-both_pass).1,
+    )
     (c.placed.ensures
     ∙ ap in_range
     (worth_plus day_ticks c.rounded-sum.result origin_span c.plus.result c.plus.ensures

@@ -29,7 +29,8 @@ cut_tiny-requires c =
     let r = c.take_apart-parts.result in
     record {
       t = c.requires.readable.finitely;
-      x_bound = below_one c.args.x r.digits r.exponent c.take_apart-parts.ensures (low (goal.at.cut_tiny-requires c).After-take_apart-parts) c.if-places-gt116.true;
+      x_bound = below_one c.args.x r.digits r.exponent c.take_apart-parts.ensures (low (goal.at.cut_tiny-requires c).After-take_apart-parts)
+          c.if-places-gt116.true;
     }
 
 pub returns-then-places-gt116 : goal.returns-then-places-gt116
@@ -44,7 +45,8 @@ returns-then-places-twos c =
     let r = c.take_apart-parts.result in
     small_part c.args.x r.digits r.exponent c.take_apart-parts.ensures (low (goal.at.returns-then-places-twos c).After-take_apart-parts) c.if-places-gt116.false
     c.args.odd c.args.twos _ c.requires.factored c.if-places-twos.true refl
-    (read_is c.cut_product-rest.result (record { sfits = c.cut_product-rest.type_inv }) ∙ c.cut_product-rest.ensures ∙ rw (digits_are (goal.at.returns-then-places-twos c).After-take_apart-parts))
+    (read_is c.cut_product-rest.result (record { sfits = c.cut_product-rest.type_inv }) ∙ c.cut_product-rest.ensures
+    ∙ rw (digits_are (goal.at.returns-then-places-twos c).After-take_apart-parts))
 
 -- the digits below a piece, and how many more there are than 2^31 of one
 over : (e k : ℕ) → e + k ≤ 1065 → 47 + k - (1075 - e) ≤ 37
@@ -67,7 +69,8 @@ pieces_over-requires c =
 pub returns-then-places-twos-2 : goal.returns-then-places-twos-2
 returns-then-places-twos-2 c =
     let r = c.take_apart-parts.result in
-    piece_part c.args.x r.digits r.exponent c.take_apart-parts.ensures (low (goal.at.returns-then-places-twos-2 c).After-take_apart-parts) (few _ _ c.requires.factored.low c.if-places-twos.false)
+    piece_part c.args.x r.digits r.exponent c.take_apart-parts.ensures (low (goal.at.returns-then-places-twos-2 c).After-take_apart-parts)
+    (few _ _ c.requires.factored.low c.if-places-twos.false)
     c.args.odd c.args.twos _ c.if-places-twos.false (rw (digits_are (goal.at.returns-then-places-twos-2 c).After-take_apart-parts) at c.pieces_over.ensures)
 
 pub pieces_within-requires : goal.pieces_within-requires
@@ -81,5 +84,6 @@ pieces_within-requires c =
 pub returns : goal.returns
 returns c =
     let r = c.take_apart-parts.result in
-    piece_part c.args.x r.digits r.exponent c.take_apart-parts.ensures (low (goal.at.returns c).After-take_apart-parts) (few _ _ c.requires.factored.low c.if-places-twos.false)
+    piece_part c.args.x r.digits r.exponent c.take_apart-parts.ensures (low (goal.at.returns c).After-take_apart-parts)
+    (few _ _ c.requires.factored.low c.if-places-twos.false)
     c.args.odd c.args.twos _ c.if-places-twos.false (rw (digits_are (goal.at.returns c).After-take_apart-parts) at c.pieces_within.ensures)

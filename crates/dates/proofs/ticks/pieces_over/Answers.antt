@@ -57,8 +57,10 @@ returns c =
     let fit = fits_small units (2 ^ 59) (units_small (goal.at.returns c).Start) (lit< tt) in
     let last = read_is c.last_digits.result (record { sfits = c.last_digits.type_inv }) in
     rw (shifted (goal.at.returns c).Start, shr_floor (pos 64 *ℤ digits (goal.at.returns c).Start) (back (goal.at.returns c).Start), read_is units fit)
-    (pieces_are c.args.odd (pos (power (goal.at.returns c).Start) *ℤ digits (goal.at.returns c).Start) units _ c.requires.cut.small (units_small (goal.at.returns c).Start) (units_are (goal.at.returns c).Start)
+    (pieces_are c.args.odd (pos (power (goal.at.returns c).Start) *ℤ digits (goal.at.returns c).Start) units _ c.requires.cut.small
+    (units_small (goal.at.returns c).Start) (units_are (goal.at.returns c).Start)
     (read_is c.cut_product.result (record { sfits = c.cut_product.type_inv })
     ∙ c.cut_product.ensures
     ∙ ap (λ (z : ℤ). floor_div (pos c.args.odd *ℤ z) (2 ^ 31))
-    (last ∙ c.last_digits.ensures ∙ ap (λ (z : ℤ). left_by (2 ^ 31) (pos (power (goal.at.returns c).Start) *ℤ z)) (read_is (digits (goal.at.returns c).Start) c.ranges.digits))))
+    (last ∙ c.last_digits.ensures
+    ∙ ap (λ (z : ℤ). left_by (2 ^ 31) (pos (power (goal.at.returns c).Start) *ℤ z)) (read_is (digits (goal.at.returns c).Start) c.ranges.digits))))

@@ -44,8 +44,10 @@ returns c =
     let units = floor_div (power (goal.at.returns c).Start *ℤ digits (goal.at.returns c).Start) (2 ^ 31) in
     let fit = fits_small units (2 ^ 59) (units_small (goal.at.returns c).Start) (lit< tt) in
     rw (all_is (goal.at.returns c).Start, shr_floor (power (goal.at.returns c).Start *ℤ digits (goal.at.returns c).Start) (2 ^ 31), read_is units fit)
-    (pieces_are c.args.odd (power (goal.at.returns c).Start *ℤ digits (goal.at.returns c).Start) units _ c.requires.cut.small (units_small (goal.at.returns c).Start) refl
+    (pieces_are c.args.odd (power (goal.at.returns c).Start *ℤ digits (goal.at.returns c).Start) units _ c.requires.cut.small
+    (units_small (goal.at.returns c).Start) refl
     (read_is c.cut_product.result (record { sfits = c.cut_product.type_inv })
     ∙ c.cut_product.ensures
     ∙ ap (λ (z : ℤ). floor_div (pos c.args.odd *ℤ z) (2 ^ 31))
-    (read_is c.last_digits.result (record { sfits = c.last_digits.type_inv }) ∙ c.last_digits.ensures ∙ ap (left_by (2 ^ 31)) (one-* _ ∙ all_is (goal.at.returns c).Start))))
+    (read_is c.last_digits.result (record { sfits = c.last_digits.type_inv }) ∙ c.last_digits.ensures
+    ∙ ap (left_by (2 ^ 31)) (one-* _ ∙ all_is (goal.at.returns c).Start))))

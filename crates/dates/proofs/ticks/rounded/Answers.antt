@@ -140,6 +140,11 @@ returns c =
       read_is ticks fine,
     )
     (record {
-      is = rounded_are (odd (goal.at.returns c).After-last_digits-part) (s (goal.at.returns c).After-last_digits-part).args.twos (pieces (goal.at.returns c).After-last_digits-part) (rest (goal.at.returns c).After-last_digits-part);
-      small = record { units = units_small (goal.at.returns c).After-last_digits-part; rest = ticks_small (goal.at.returns c).After-last_digits-part 32768 half };
+      is = rounded_are (odd (goal.at.returns c).After-last_digits-part) (s (goal.at.returns c).After-last_digits-part).args.twos
+          (pieces (goal.at.returns c).After-last_digits-part) (rest (goal.at.returns c).After-last_digits-part);
+      small = record {
+        units = units_small (goal.at.returns c).After-last_digits-part;
+        rest =
+            ticks_small (goal.at.returns c).After-last_digits-part 32768 half;
+      };
     })

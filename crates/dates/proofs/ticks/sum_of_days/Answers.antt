@@ -61,11 +61,19 @@ pub returns-then-first : goal.returns-then-first
 returns-then-first c =
     let rest = c.count_of-near.result.rest in
     let fit = fits_small rest (2 ^ 53) c.count_of-near.ensures.small.rest (lit< tt) in
-    rw (read_is (read (far (goal.at.returns-then-first c).After-far_pieces) +ℤ read (near (goal.at.returns-then-first c).After-far_pieces)) (sum_fits (goal.at.returns-then-first c).After-far_pieces), far_is (goal.at.returns-then-first c).After-far_pieces, near_is (goal.at.returns-then-first c).After-far_pieces, read_is rest fit)
+    rw (
+      read_is (read (far (goal.at.returns-then-first c).After-far_pieces) +ℤ read (near (goal.at.returns-then-first c).After-far_pieces))
+          (sum_fits (goal.at.returns-then-first c).After-far_pieces),
+      far_is (goal.at.returns-then-first c).After-far_pieces,
+      near_is
+          (goal.at.returns-then-first c).After-far_pieces,
+      read_is rest fit,
+    )
     (record {
       is =
           out (far (goal.at.returns-then-first c).After-far_pieces) (near (goal.at.returns-then-first c).After-far_pieces) rest
-          ∙ ap₂ (λ (x y : ℤ). x +ℤ y) (sym (far_shares c.args.first (far (goal.at.returns-then-first c).After-far_pieces) c.far_pieces.ensures)) c.count_of-near.ensures.is;
+          ∙ ap₂ (λ (x y : ℤ). x +ℤ y) (sym (far_shares c.args.first (far (goal.at.returns-then-first c).After-far_pieces) c.far_pieces.ensures))
+          c.count_of-near.ensures.is;
       small = record { units = sum_small (goal.at.returns-then-first c).After-far_pieces; rest = le_trans c.count_of-near.ensures.small.rest (lit≤ tt) };
     })
   where

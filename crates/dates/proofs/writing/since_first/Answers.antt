@@ -51,7 +51,8 @@ pub overflow_add-result : goal.overflow_add-result
 overflow_add-result c = rw (back (goal.at.overflow_add-result c).Start) (sum _ (lit≤ tt) (lit< tt) _ c.requires (before_it c))
 
 pub overflow_cast-result : goal.overflow_cast-result
-overflow_cast-result c = rw (to_z-of_z w64 _ (overflow_add-result c), back (goal.at.overflow_cast-result c).Start) (cast _ (lit≤ tt) (lit< tt) _ c.requires (before_it c))
+overflow_cast-result c =
+    rw (to_z-of_z w64 _ (overflow_add-result c), back (goal.at.overflow_cast-result c).Start) (cast _ (lit≤ tt) (lit< tt) _ c.requires (before_it c))
 
 pub returns-then-tick-lt0 : goal.returns-then-tick-lt0
 returns-then-tick-lt0 c = rw (to_z-of_z w64 _ (overflow_add-result c), back (goal.at.returns-then-tick-lt0 c).Start) (days_counted c.args.tick c.requires)

@@ -35,4 +35,11 @@ pub returns : goal.returns
 unfolding written_of date_of first_part second_part
 returns c =
     let t = c.args.tick in
-    rw (valid_yes (goal.at.returns c).Else-not-valid, c.julian_date.ensures, c.part_of_day.ensures, first_half_is t _ (counted (goal.at.returns c).After-since_first-since), ticks_of_day_is t _ (counted (goal.at.returns c).After-since_first-since))
+    rw (
+      valid_yes (goal.at.returns c).Else-not-valid,
+      c.julian_date.ensures,
+      c.part_of_day.ensures,
+      first_half_is t _
+          (counted (goal.at.returns c).After-since_first-since),
+      ticks_of_day_is t _ (counted (goal.at.returns c).After-since_first-since),
+    )

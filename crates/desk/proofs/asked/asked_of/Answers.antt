@@ -14,7 +14,10 @@ pub returns-in-Refused : goal.returns-in-Refused
 returns-in-Refused c = from_refused _ _ _ _ _ _ _ (sym c.scale_of.ensures ∙ c.in-Refused.is)
 
 pub returns-in-Refused-scale_of : goal.returns-in-Refused-scale_of
-returns-in-Refused-scale_of c = to_refused _ _ _ _ _ _ _ (from_is (goal.at.returns-in-Refused-scale_of c).In-Scale) _ (sym c.scale_of-in-Scale.ensures ∙ c.in-Refused-scale_of.is)
+returns-in-Refused-scale_of c =
+    to_refused _ _ _ _ _ _ _ (from_is (goal.at.returns-in-Refused-scale_of c).In-Scale) _ (sym c.scale_of-in-Scale.ensures ∙ c.in-Refused-scale_of.is)
 
 pub returns-in-Scale-scale_of : goal.returns-in-Scale-scale_of
-returns-in-Scale-scale_of c = c.asked_between.ensures ∙ both_named _ _ _ _ _ _ _ (from_is (goal.at.returns-in-Scale-scale_of c).In-Scale) _ (sym c.scale_of-in-Scale.ensures ∙ c.in-Scale-scale_of.is)
+returns-in-Scale-scale_of c =
+    c.asked_between.ensures ∙ both_named _ _ _ _ _ _ _ (from_is (goal.at.returns-in-Scale-scale_of c).In-Scale) _ (sym c.scale_of-in-Scale.ensures
+    ∙ c.in-Scale-scale_of.is)

@@ -68,4 +68,6 @@ returns-after-asked-2 c =
     ∙ answered (goal.at.returns-after-asked-2 c).After-asked_over-asked _ _ (sym is) (sym c.in-Tick.is ∙ c.tick_of.ensures)
 
 pub returns-in-Refused-tick_of : goal.returns-in-Refused-tick_of
-returns-in-Refused-tick_of c = c.refuse.ensures ∙ answered (goal.at.returns-in-Refused-tick_of c).After-asked_over-asked _ _ refl (sym c.in-Refused-tick_of.is ∙ c.tick_of.ensures)
+returns-in-Refused-tick_of c =
+    c.refuse.ensures
+    ∙ answered (goal.at.returns-in-Refused-tick_of c).After-asked_over-asked _ _ refl (sym c.in-Refused-tick_of.is ∙ c.tick_of.ensures)

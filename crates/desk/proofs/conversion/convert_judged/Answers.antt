@@ -20,7 +20,8 @@ returns-in-Plain c =
     ∙ of_tick _ _ _ _ _ _ _ _ (sym c.asked_of.ensures ∙ c.in-Plain.is) (was (goal.at.returns-in-Plain c).After-ranged-read)
 
 pub returns-in-Crossing : goal.returns-in-Crossing
-returns-in-Crossing c = c.crossed.ensures ∙ of_tick _ _ _ _ _ _ _ _ (sym c.asked_of.ensures ∙ c.in-Crossing.is) (was (goal.at.returns-in-Crossing c).After-ranged-read)
+returns-in-Crossing c =
+    c.crossed.ensures ∙ of_tick _ _ _ _ _ _ _ _ (sym c.asked_of.ensures ∙ c.in-Crossing.is) (was (goal.at.returns-in-Crossing c).After-ranged-read)
 
 pub returns-in-Refused : goal.returns-in-Refused
 returns-in-Refused c = of_tick _ _ _ _ _ _ _ _ (sym c.asked_of.ensures ∙ c.in-Refused.is) (was (goal.at.returns-in-Refused c).After-ranged-read)

@@ -15,7 +15,9 @@ pub taken_over-requires : goal.taken_over-requires
 taken_over-requires c = record { accepted = opened c }
 
 pub returns-in-Accepted : goal.returns-in-Accepted
-returns-in-Accepted c = rw (opened (goal.at.returns-in-Accepted c).In-Accepted, coefficients_are _ _ (opened (goal.at.returns-in-Accepted c).In-Accepted)) c.taken_over.ensures
+returns-in-Accepted c =
+    rw (opened (goal.at.returns-in-Accepted c).In-Accepted, coefficients_are _ _ (opened (goal.at.returns-in-Accepted c).In-Accepted))
+    c.taken_over.ensures
 
 pub returns-in-Refused : goal.returns-in-Refused
 returns-in-Refused c = rw (sym c.judge.ensures ∙ c.in-Refused.is)

@@ -19,9 +19,11 @@ test_is : (c : After-tdb_before) → c.tdb_before.result
     ≡ lt_z (tdb_at c.args.table c.args.coefficients.now c.loop-place.place) c.args.asked.0
 test_is c = let e = c.tdb_at-tdb.ensures in rw e at c.tdb_before.ensures
 
-passed : (c : Else-not-tdb_before) → c.loop-place.place < earliest_place c.args.table c.args.coefficients.now c.args.asked.0
+passed : (c : Else-not-tdb_before)
+    → c.loop-place.place < earliest_place c.args.table c.args.coefficients.now c.args.asked.0
 passed c =
-    earliest_later c.args.table c.args.coefficients.now c.args.asked.0 c.requires.accepted c.loop-place.place (inside (goal.at.Else-not-tdb_before c).In-loop-place)
+    earliest_later c.args.table c.args.coefficients.now c.args.asked.0 c.requires.accepted c.loop-place.place
+    (inside (goal.at.Else-not-tdb_before c).In-loop-place)
     (lt_yes _ _ (sym (test_is (goal.at.Else-not-tdb_before c).After-tdb_before) ∙ c.if-not-tdb_before.false))
 
 pub last_place-last-requires : goal.last_place-last-requires

@@ -71,7 +71,9 @@ returns-then-inside c =
     (c.place_of.ensures ∙ held_here c.args.table c.tt_of-tick.result.0 (sym c.inside.ensures ∙ c.if-inside.true))
 
 pub returns-then-tt_before : goal.returns-then-tt_before
-returns-then-tt_before c = rw (← tick_is (goal.at.returns-then-tt_before c).After-tt_of-tick) (held_first c.args.table c.tt_of-tick.result.0 (sym c.tt_before.ensures ∙ c.if-tt_before.true))
+returns-then-tt_before c =
+    rw (← tick_is (goal.at.returns-then-tt_before c).After-tt_of-tick)
+    (held_first c.args.table c.tt_of-tick.result.0 (sym c.tt_before.ensures ∙ c.if-tt_before.true))
 
 pub returns : goal.returns
 returns c =

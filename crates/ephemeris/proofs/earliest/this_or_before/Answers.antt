@@ -24,7 +24,8 @@ tdb_at-before-requires c = record { accepted = c.requires.placed.accepted; insid
 pub returns-then-tdb_before : goal.returns-then-tdb_before
 returns-then-tdb_before c =
     let later = earliest_later c.args.table c.args.coefficients.now c.args.asked.0 c.requires.placed.accepted (c.args.place - 1)
-    (omega (arith, c.requires.placed.inside, c.if-place-eq0.false)) (lt_yes _ _ (sym (test_is (goal.at.returns-then-tdb_before c).After-tdb_before) ∙ c.if-tdb_before.true)) in
+    (omega (arith, c.requires.placed.inside, c.if-place-eq0.false))
+    (lt_yes _ _ (sym (test_is (goal.at.returns-then-tdb_before c).After-tdb_before) ∙ c.if-tdb_before.true)) in
     omega (arith, c.requires.to, c.if-place-eq0.false)
 
 pub returns : goal.returns

@@ -15,7 +15,8 @@ tick_is : (c : After-tick_at-tick) → c.tick_at-tick.result.0 ≡ S c.args.tabl
 unfolding tick_at
 tick_is c = c.tick_at-tick.ensures
 
-delay_is : (c : After-delay_at-delay) → read c.delay_at-delay.result ≡ table_delay c.args.table c.args.coefficients.now c.args.place
+delay_is : (c : After-delay_at-delay) → read c.delay_at-delay.result
+    ≡ table_delay c.args.table c.args.coefficients.now c.args.place
 delay_is c = read_is _ (record { sfits = c.delay_at-delay.type_inv }) ∙ c.delay_at-delay.ensures
 
 pub tdb_of-requires : goal.tdb_of-requires
@@ -27,4 +28,6 @@ tdb_of-requires c =
     }
 
 pub returns : goal.returns
-returns c = rw (tick_is (goal.at.returns c).After-tick_at-tick, delay_is (goal.at.returns c).After-delay_at-delay) at c.tdb_of.ensures ∙ sym (tdb_at_place _ _ _)
+returns c =
+    rw (tick_is (goal.at.returns c).After-tick_at-tick, delay_is (goal.at.returns c).After-delay_at-delay) at c.tdb_of.ensures
+    ∙ sym (tdb_at_place _ _ _)

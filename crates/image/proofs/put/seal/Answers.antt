@@ -15,4 +15,6 @@ pub bounds-image-at-4 : goal.bounds-image-at-4
 bounds-image-at-4 c = simp length-set (omega arith)
 
 pub returns : goal.returns
-returns c = seal_is c.args.image.now c.args.at c.check_of-check.result.a c.check_of-check.result.b c.requires c.check_of-check.ensures.0 c.check_of-check.ensures.1
+returns c =
+    seal_is c.args.image.now c.args.at c.check_of-check.result.a c.check_of-check.result.b c.requires c.check_of-check.ensures.0
+    c.check_of-check.ensures.1

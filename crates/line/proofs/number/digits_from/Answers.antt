@@ -52,4 +52,6 @@ loop-end-preserved c =
     )
 
 pub returns : goal.returns
-returns c = sym (ap (run_onward c.loop-end.value c.loop-end.end) (drop_of_length-le _ c.loop-end-test.false) ∙ onward_end _ _ c.loop-end.invariant.1) ∙ c.loop-end.invariant.2
+returns c =
+    sym (ap (run_onward c.loop-end.value c.loop-end.end) (drop_of_length-le _ c.loop-end-test.false) ∙ onward_end _ _ c.loop-end.invariant.1)
+    ∙ c.loop-end.invariant.2

@@ -47,7 +47,8 @@ pub overflow_sub-result-else-size-eq0 : goal.overflow_sub-result-else-size-eq0
 overflow_sub-result-else-size-eq0 c = fits c.args.size (omega arith) (omega arith)
 
 pub returns-then-size-gt9223372036854775808 : goal.returns-then-size-gt9223372036854775808
-returns-then-size-gt9223372036854775808 c = let a = c.args in signed_so _ true a.size a.end _ c.if-negative.true (rw (negative_far a.size c.if-size-gt9223372036854775808.true))
+returns-then-size-gt9223372036854775808 c =
+    let a = c.args in signed_so _ true a.size a.end _ c.if-negative.true (rw (negative_far a.size c.if-size-gt9223372036854775808.true))
 
 pub returns-then-size-eq0 : goal.returns-then-size-eq0
 returns-then-size-eq0 c = signed_so _ true c.args.size c.args.end _ c.if-negative.true (rw (c.if-size-eq0.true, negative_zero))

@@ -38,7 +38,8 @@ pub returns-then-number-lt0 : goal.returns-then-number-lt0
 returns-then-number-lt0 c = sym (code_below c.args.number (lt_yes _ _ (rw (number_back (goal.at.returns-then-number-lt0 c).Start) at c.if-number-lt0.true)))
 
 pub returns-then-number-gt4294967294 : goal.returns-then-number-gt4294967294
-returns-then-number-gt4294967294 c = sym (code_above c.args.number (lt_yes _ _ (rw (number_back (goal.at.returns-then-number-gt4294967294 c).Start) at c.if-number-gt4294967294.true)))
+returns-then-number-gt4294967294 c =
+    sym (code_above c.args.number (lt_yes _ _ (rw (number_back (goal.at.returns-then-number-gt4294967294 c).Start) at c.if-number-gt4294967294.true)))
 
 pub returns-else-number-gt4294967294 : goal.returns-else-number-gt4294967294
 returns-else-number-gt4294967294 c = rw (number_back (goal.at.returns-else-number-gt4294967294 c).Start) (within c).is

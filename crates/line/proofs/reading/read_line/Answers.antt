@@ -130,13 +130,17 @@ pub returns-then-first-text : goal.returns-then-first-text
 returns-then-first-text c = sym (one_only _ _ (first (goal.at.returns-then-first-text c).In-Number) c.if-first-text.true)
 
 pub returns-in_default-number_from : goal.returns-in_default-number_from
-returns-in_default-number_from c = sym (no_second _ _ (first (goal.at.returns-in_default-number_from c).In-Number) c.if-first-text.false (sym c.number_from-2.ensures ∙ c.in_default-number_from.is))
+returns-in_default-number_from c =
+    sym (no_second _ _ (first (goal.at.returns-in_default-number_from c).In-Number) c.if-first-text.false (sym c.number_from-2.ensures
+    ∙ c.in_default-number_from.is))
 
 pub returns-then-second-text : goal.returns-then-second-text
 returns-then-second-text c = sym (two_only _ _ (second (goal.at.returns-then-second-text c).In-Number-number_from) c.if-second-text.true)
 
 pub returns-in_default-number_from-2 : goal.returns-in_default-number_from-2
-returns-in_default-number_from-2 c = sym (no_third _ _ (second (goal.at.returns-in_default-number_from-2 c).In-Number-number_from) c.if-second-text.false (sym c.number_from-3.ensures ∙ c.in_default-number_from-2.is))
+returns-in_default-number_from-2 c =
+    sym (no_third _ _ (second (goal.at.returns-in_default-number_from-2 c).In-Number-number_from) c.if-second-text.false (sym c.number_from-3.ensures
+    ∙ c.in_default-number_from-2.is))
 
 pub returns-then-third-text : goal.returns-then-third-text
 returns-then-third-text c = sym (too_many _ _ (third (goal.at.returns-then-third-text c).In-Number-number_from-2) c.if-third-text.true)

@@ -8,7 +8,9 @@ use Rattle.printing.specs.Buffers.{with_text}
 use Rattle.printing.proofs.decimal.put_decimal.Given as goal
 
 abbrev pub invariant-loop-rest : goal.invariant-loop-rest
-invariant-loop-rest l = (length l.out ≡ length l.initial.out) × (l.i ≡ l.at + length (decimal l.rest)) × (l.i ≤ length l.out) × (with_text l.out l.at (decimal l.rest) ≡ with_text l.initial.out l.at (decimal l.n))
+invariant-loop-rest l =
+    (length l.out ≡ length l.initial.out) × (l.i ≡ l.at + length (decimal l.rest)) × (l.i ≤ length l.out)
+    × (with_text l.out l.at (decimal l.rest) ≡ with_text l.initial.out l.at (decimal l.n))
 
 abbrev pub decreases-loop-rest : goal.decreases-loop-rest
 decreases-loop-rest l = l.rest

@@ -46,7 +46,8 @@ module _ (out : List ℕ) (at : ℕ) (z : ℤ) (below : z <ℤ pos 0) (room : Ro
   size_room : (n byte : ℕ) → n ≡ nat_abs z → Room (set out at byte) (at + 1) (decimal n)
   size_room n byte e = record { room = simp length-set (rw e inside) }
 
-  minus_and : (n : ℕ) {left : List ℕ} {next : ℕ} → n ≡ nat_abs z → TextPut (set out at 45) (at + 1) (decimal n) left next
+  minus_and : (n : ℕ) {left : List ℕ} {next : ℕ} → n ≡ nat_abs z
+      → TextPut (set out at 45) (at + 1) (decimal n) left next
       → TextPut out at (integer_text z) left next
   minus_and n e p = rw (negative_text z below) (then_text (put_byte out at 45 first_inside) (rw e at p) inside)
 
@@ -76,13 +77,18 @@ pub overflow_cast-z : goal.overflow_cast-z
 overflow_cast-z c = rw (back (goal.at.overflow_cast-z c).Start) (other (goal.at.overflow_cast-z c).Else-z-lt0).cast
 
 pub put_decimal-requires-else-z-lt0 : goal.put_decimal-requires-else-z-lt0
-put_decimal-requires-else-z-lt0 c = rw (back (goal.at.put_decimal-requires-else-z-lt0 c).Start) (record { room = rw (other (goal.at.put_decimal-requires-else-z-lt0 c).Else-z-lt0).text at c.requires.room })
+put_decimal-requires-else-z-lt0 c =
+    rw (back (goal.at.put_decimal-requires-else-z-lt0 c).Start)
+    (record { room = rw (other (goal.at.put_decimal-requires-else-z-lt0 c).Else-z-lt0).text at c.requires.room })
 
 pub shape_of-out-then-z-lt0 : goal.shape_of-out-then-z-lt0
 shape_of-out-then-z-lt0 c = c.put_decimal.auto.out ∙ simp length-set
 
 pub returns-then-z-lt0 : goal.returns-then-z-lt0
-returns-then-z-lt0 c = minus_and c.args.out.now c.args.at c.args.z (negative (goal.at.returns-then-z-lt0 c).Then-z-lt0) c.requires _ (sized (goal.at.returns-then-z-lt0 c).After-size_below_zero) c.put_decimal.ensures
+returns-then-z-lt0 c =
+    minus_and c.args.out.now c.args.at c.args.z (negative (goal.at.returns-then-z-lt0 c).Then-z-lt0) c.requires _
+    (sized (goal.at.returns-then-z-lt0 c).After-size_below_zero) c.put_decimal.ensures
 
 pub returns-else-z-lt0 : goal.returns-else-z-lt0
-returns-else-z-lt0 c = rw (other (goal.at.returns-else-z-lt0 c).Else-z-lt0).text (rw (back (goal.at.returns-else-z-lt0 c).Start) at c.put_decimal-else-z-lt0.ensures)
+returns-else-z-lt0 c =
+    rw (other (goal.at.returns-else-z-lt0 c).Else-z-lt0).text (rw (back (goal.at.returns-else-z-lt0 c).Start) at c.put_decimal-else-z-lt0.ensures)

@@ -150,19 +150,30 @@ pub bounds-out-first : goal.bounds-out-first
 bounds-out-first c = let k = (goal.at.bounds-out-first c).After-put_integer-first in here (given (start k)) _ _ (first_put k)
 
 pub overflow_add-first : goal.overflow_add-first
-overflow_add-first c = let h = inside (given (start (goal.at.overflow_add-first c).After-put_integer-first)) _ _ (first_put (goal.at.overflow_add-first c).After-put_integer-first) in omega arith
+overflow_add-first c =
+    let h = inside (given (start (goal.at.overflow_add-first c).After-put_integer-first)) _ _
+    (first_put (goal.at.overflow_add-first c).After-put_integer-first) in omega arith
 
 pub put_integer-second-requires : goal.put_integer-second-requires
-put_integer-second-requires c = rw (tick_back (start (goal.at.put_integer-second-requires c).After-put_integer-first)) (room_2 (given (start (goal.at.put_integer-second-requires c).After-put_integer-first)) _ _ (first_put (goal.at.put_integer-second-requires c).After-put_integer-first))
+put_integer-second-requires c =
+    rw (tick_back (start (goal.at.put_integer-second-requires c).After-put_integer-first))
+    (room_2 (given (start (goal.at.put_integer-second-requires c).After-put_integer-first)) _ _
+    (first_put (goal.at.put_integer-second-requires c).After-put_integer-first))
 
 pub bounds-out-second : goal.bounds-out-second
-bounds-out-second c = let l = (goal.at.bounds-out-second c).After-put_integer-second in let k = earlier l in here₂ (given (start k)) _ _ (first_put k) _ _ (second_put l)
+bounds-out-second c =
+    let l = (goal.at.bounds-out-second c).After-put_integer-second in let k = earlier l in
+    here₂ (given (start k)) _ _ (first_put k) _ _ (second_put l)
 
 pub overflow_add-second : goal.overflow_add-second
-overflow_add-second c = let k = earlier (goal.at.overflow_add-second c).After-put_integer-second in let h = inside₂ (given (start k)) _ _ (first_put k) _ _ (second_put (goal.at.overflow_add-second c).After-put_integer-second) in omega arith
+overflow_add-second c =
+    let k = earlier (goal.at.overflow_add-second c).After-put_integer-second in
+    let h = inside₂ (given (start k)) _ _ (first_put k) _ _ (second_put (goal.at.overflow_add-second c).After-put_integer-second) in omega arith
 
 pub put_decimal-third-requires : goal.put_decimal-third-requires
-put_decimal-third-requires c = let k = earlier (goal.at.put_decimal-third-requires c).After-put_integer-second in room_3 (given (start k)) _ _ (first_put k) _ _ (second_put (goal.at.put_decimal-third-requires c).After-put_integer-second)
+put_decimal-third-requires c =
+    let k = earlier (goal.at.put_decimal-third-requires c).After-put_integer-second in
+    room_3 (given (start k)) _ _ (first_put k) _ _ (second_put (goal.at.put_decimal-third-requires c).After-put_integer-second)
 
 pub bounds-out-third : goal.bounds-out-third
 bounds-out-third c =
@@ -172,7 +183,8 @@ bounds-out-third c =
 pub overflow_add-result : goal.overflow_add-result
 overflow_add-result c =
     let k = earlier (goal.at.overflow_add-result c).After-put_integer-second in
-    let h = inside₃ (given (start k)) _ _ (first_put k) _ _ (second_put (goal.at.overflow_add-result c).After-put_integer-second) _ _ c.put_decimal-third.ensures in omega arith
+    let h = inside₃ (given (start k)) _ _ (first_put k) _ _ (second_put (goal.at.overflow_add-result c).After-put_integer-second) _ _
+    c.put_decimal-third.ensures in omega arith
 
 pub shape_of-out : goal.shape_of-out
 shape_of-out c =

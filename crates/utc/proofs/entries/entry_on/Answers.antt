@@ -64,7 +64,8 @@ overflow_add-low c = let i = c.loop-turns.invariant in omega arith
 pub first_day-requires : goal.first_day-requires
 first_day-requires c = let i = c.loop-turns.invariant in omega arith
 
-middle_is : (c : After-first_day) → read c.first_day.result ≡ first_day c.args.leaps.now (c.loop-turns.low + c.loop-turns.left / 2)
+middle_is : (c : After-first_day) → read c.first_day.result
+    ≡ first_day c.args.leaps.now (c.loop-turns.low + c.loop-turns.left / 2)
 middle_is c = read_is _ (record { sfits = c.first_day.type_inv }) ∙ c.first_day.ensures
 
 pub overflow_add-low-then-first_day-day : goal.overflow_add-low-then-first_day-day

@@ -31,7 +31,8 @@ unfolding is_next_right
 returns-then-first_day c =
     let x = first_day c.args.leaps.now c.args.entry in
     let y = first_day c.args.leaps.now (suc c.args.entry) in
-    let no : lt_z x y ≡ false = not-true _ (not_lt x y ∙ (rw (here c.before.before, next (goal.at.returns-then-first_day c).After-first_day-2) at c.if-first_day.true)) in
+    let no : lt_z x y
+    ≡ false = not-true _ (not_lt x y ∙ (rw (here c.before.before, next (goal.at.returns-then-first_day c).After-first_day-2) at c.if-first_day.true)) in
     rw no
 
 pub overflow_add-entry-2 : goal.overflow_add-entry-2
@@ -53,5 +54,7 @@ unfolding is_next_right
 returns c =
     let x = first_day c.args.leaps.now c.args.entry in
     let y = first_day c.args.leaps.now (suc c.args.entry) in
-    let yes : lt_z x y ≡ true = not-false _ (not_lt x y ∙ (rw (here c.before.before.before.before.before, next (goal.at.returns c).After-first_day-2) at c.if-first_day.false)) in
+    let yes : lt_z x y
+    ≡ true = not-false _
+    (not_lt x y ∙ (rw (here c.before.before.before.before.before, next (goal.at.returns c).After-first_day-2) at c.if-first_day.false)) in
     rw yes (rw (first c.before.before, second c.before) at c.change_by_one.ensures)

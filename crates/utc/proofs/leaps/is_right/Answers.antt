@@ -183,7 +183,8 @@ pub returns-then-entry-count : goal.returns-then-entry-count
 unfolding entries
 returns-then-entry-count c =
     c.is_next_right-then-entry-count.ensures
-    ∙ last_but_one (few_are c.before.before.before.before) c.loop-entry.entry c.loop-entry.invariant (begun c.before.before.before.before) (omega arith) (omega arith)
+    ∙ last_but_one (few_are c.before.before.before.before) c.loop-entry.entry c.loop-entry.invariant (begun c.before.before.before.before) (omega arith)
+    (omega arith)
 
 pub returns : goal.returns
 unfolding entries

@@ -29,12 +29,14 @@ tested_2 c =
 pub returns-then-first_day-eq41317 : goal.returns-then-first_day-eq41317
 unfolding is_start_right
 returns-then-first_day-eq41317 c =
-    let yes : eqb (gap (first_day c.args.leaps.now 0) (pos list_day)) 0 ≡ true = sym (tested (goal.at.returns-then-first_day-eq41317 c).After-first_day) ∙ eq-eqb _ _ c.if-first_day-eq41317.true in
+    let yes : eqb (gap (first_day c.args.leaps.now 0) (pos list_day)) 0 ≡ true = sym (tested (goal.at.returns-then-first_day-eq41317 c).After-first_day)
+    ∙ eq-eqb _ _ c.if-first_day-eq41317.true in
     rw yes (tested_2 c)
 
 pub returns-else-first_day-eq41317 : goal.returns-else-first_day-eq41317
 unfolding is_start_right
 returns-else-first_day-eq41317 c =
     let no = ne_eqb (of_z w64 c.first_day.result) list_day c.if-first_day-eq41317.false in
-    let far : eqb (gap (first_day c.args.leaps.now 0) (pos list_day)) 0 ≡ false = sym (tested (goal.at.returns-else-first_day-eq41317 c).After-first_day) ∙ no in
+    let far : eqb (gap (first_day c.args.leaps.now 0) (pos list_day)) 0 ≡ false = sym (tested (goal.at.returns-else-first_day-eq41317 c).After-first_day)
+    ∙ no in
     rw far no

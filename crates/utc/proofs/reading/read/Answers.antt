@@ -21,7 +21,8 @@ use Rattle.utc.proofs.Rules.{Moderate, moderate_size, right}
 use Rattle.utc.proofs.Standing.{entry_at, seconds_moderate}
 use Rattle.utc.proofs.Within.{Reading, is_reading_lem, reading_size}
 use Rattle.utc.proofs.reading.read.Goals as goal
-use Rattle.utc.proofs.reading.read.Goals.{After-entry_on-entry, After-length_by, After-seconds_of-seconds, After-tai_by-tick, Else-day-lt41317, Else-ticks-length_by, Else-ticks-lt0, Start}
+use Rattle.utc.proofs.reading.read.Goals.{After-entry_on-entry, After-length_by, After-seconds_of-seconds, After-tai_by-tick, Else-day-lt41317}
+use Rattle.utc.proofs.reading.read.Goals.{Else-ticks-length_by, Else-ticks-lt0, Start}
 
 -- a day beyond which every tick is out of the range, and up to which the formula is safe
 beyond : (seconds day ticks : ℤ) → neg_ℤ (pos 53) ≤ℤ seconds → pos 0 ≤ℤ ticks → pos 143144 <ℤ day
@@ -119,13 +120,17 @@ seconds_of-seconds-requires c =
     rw (entry_is c) (entry_at (right _ l.right) _ l.begun).within
 
 pub seconds_after-requires : goal.seconds_after-requires
-seconds_after-requires c = rw (day_is (goal.at.seconds_after-requires c).Start) (record { listed = listed (goal.at.seconds_after-requires c).Else-day-lt41317; is = entry_is c.before })
+seconds_after-requires c =
+    rw (day_is (goal.at.seconds_after-requires c).Start)
+    (record { listed = listed (goal.at.seconds_after-requires c).Else-day-lt41317; is = entry_is c.before })
 
 pub returns-then-ticks-length_by : goal.returns-then-ticks-length_by
 returns-then-ticks-length_by c =
     c.no_tick-then-ticks-length_by.ensures
     ∙ no_reading c.args.leaps.now c.args.day c.args.ticks
-    (over c.args.leaps.now c.args.day c.args.ticks (le_yes _ _ (rw (length_is (goal.at.returns-then-ticks-length_by c).After-length_by, ticks_is (goal.at.returns-then-ticks-length_by c).Start) at c.if-ticks-length_by.true)))
+    (over c.args.leaps.now c.args.day c.args.ticks
+    (le_yes _ _ (rw (length_is (goal.at.returns-then-ticks-length_by c).After-length_by, ticks_is (goal.at.returns-then-ticks-length_by c).Start)
+    at c.if-ticks-length_by.true)))
 
 -- a right reading
 right_one : (c : Else-ticks-length_by) → Reading c.args.leaps.now c.args.day c.args.ticks
@@ -133,7 +138,8 @@ right_one c =
     record {
       begun = (listed (goal.at.Else-ticks-length_by c).Else-day-lt41317).begun;
       low = not_negative (goal.at.Else-ticks-length_by c).Else-ticks-lt0;
-      high = le_no _ _ (rw (length_is (goal.at.Else-ticks-length_by c).After-length_by, ticks_is (goal.at.Else-ticks-length_by c).Start) at c.if-ticks-length_by.false);
+      high = le_no _ _
+          (rw (length_is (goal.at.Else-ticks-length_by c).After-length_by, ticks_is (goal.at.Else-ticks-length_by c).Start) at c.if-ticks-length_by.false);
     }
 
 on_day : (c : Else-ticks-length_by) → Moderate (seconds_on c.args.leaps.now c.args.day)
@@ -144,7 +150,9 @@ on_day c =
 pub returns-then-day-gt143144 : goal.returns-then-day-gt143144
 returns-then-day-gt143144 c =
     c.no_tick-then-day-gt143144.ensures
-    ∙ far c.args.leaps.now c.args.day c.args.ticks (right_one (goal.at.returns-then-day-gt143144 c).Else-ticks-length_by) (on_day (goal.at.returns-then-day-gt143144 c).Else-ticks-length_by) (lt_yes _ _ (rw (day_is (goal.at.returns-then-day-gt143144 c).Start) at c.if-day-gt143144.true))
+    ∙ far c.args.leaps.now c.args.day c.args.ticks (right_one (goal.at.returns-then-day-gt143144 c).Else-ticks-length_by)
+    (on_day (goal.at.returns-then-day-gt143144 c).Else-ticks-length_by)
+    (lt_yes _ _ (rw (day_is (goal.at.returns-then-day-gt143144 c).Start) at c.if-day-gt143144.true))
 
 pub tai_by-tick-requires : goal.tai_by-tick-requires
 tai_by-tick-requires c =
@@ -161,14 +169,17 @@ tick_is : (c : After-tai_by-tick)
 unfolding tai_of
 tick_is c =
     read_is _ (record { sfits = c.tai_by-tick.type_inv })
-    ∙ (rw (seconds_is c.before.before.before.before.before, day_is (goal.at.After-tai_by-tick c).Start, ticks_is (goal.at.After-tai_by-tick c).Start) at c.tai_by-tick.ensures)
+    ∙ (rw (seconds_is c.before.before.before.before.before, day_is (goal.at.After-tai_by-tick c).Start, ticks_is (goal.at.After-tai_by-tick c).Start)
+    at c.tai_by-tick.ensures)
 
 pub returns-then-valid : goal.returns-then-valid
 returns-then-valid c =
     rw (tick_is c.before.before)
-    (ranged c.args.leaps.now c.args.day c.args.ticks (right_one (goal.at.returns-then-valid c).Else-ticks-length_by) ((rw (tick_is c.before.before) at (sym c.valid.ensures)) ∙ c.if-valid.true))
+    (ranged c.args.leaps.now c.args.day c.args.ticks (right_one (goal.at.returns-then-valid c).Else-ticks-length_by)
+    ((rw (tick_is c.before.before) at (sym c.valid.ensures)) ∙ c.if-valid.true))
 
 pub returns : goal.returns
 returns c =
     c.no_tick-2.ensures
-    ∙ unranged c.args.leaps.now c.args.day c.args.ticks (right_one (goal.at.returns c).Else-ticks-length_by) ((rw (tick_is c.before.before.before) at (sym c.valid.ensures)) ∙ c.if-valid.false)
+    ∙ unranged c.args.leaps.now c.args.day c.args.ticks (right_one (goal.at.returns c).Else-ticks-length_by)
+    ((rw (tick_is c.before.before.before) at (sym c.valid.ensures)) ∙ c.if-valid.false)

@@ -44,10 +44,14 @@ day_is : (c : After-latest_day-day) → read c.latest_day-day.result ≡ latest_
 day_is c = read_is _ (record { sfits = c.latest_day-day.type_inv }) ∙ (rw (tick_is (goal.at.After-latest_day-day c).Start) at c.latest_day-day.ensures)
 
 pub day_start-start-requires : goal.day_start-start-requires
-day_start-start-requires c = rw (day_is c) (latest_near c.args.leaps.now c.requires.right c.args.tick (writable c.args.tick c.requires.valid (grind (arith, ints))))
+day_start-start-requires c =
+    rw (day_is c) (latest_near c.args.leaps.now c.requires.right c.args.tick (writable c.args.tick c.requires.valid (grind (arith, ints))))
 
-start_is : (c : After-day_start-start) → read c.day_start-start.result ≡ day_start c.args.leaps.now (latest_day c.args.tick)
-start_is c = read_is _ (record { sfits = c.day_start-start.type_inv }) ∙ (rw (day_is (goal.at.After-day_start-start c).After-latest_day-day) at c.day_start-start.ensures)
+start_is : (c : After-day_start-start) → read c.day_start-start.result
+    ≡ day_start c.args.leaps.now (latest_day c.args.tick)
+start_is c =
+    read_is _ (record { sfits = c.day_start-start.type_inv })
+    ∙ (rw (day_is (goal.at.After-day_start-start c).After-latest_day-day) at c.day_start-start.ensures)
 
 -- the latest day has begun
 here : (c : Then-start-tick) → Within c.args.leaps.now c.args.tick (latest_day c.args.tick)
@@ -63,7 +67,13 @@ overflow_sub-result c = rw (tick_is (goal.at.overflow_sub-result c).Start, start
 
 pub returns-then-start-tick : goal.returns-then-start-tick
 returns-then-start-tick c =
-    rw (day_is c.before.before, tick_is (goal.at.returns-then-start-tick c).Start, start_is (goal.at.returns-then-start-tick c).After-day_start-start, read_is _ (here_fits c))
+    rw (
+      day_is c.before.before,
+      tick_is (goal.at.returns-then-start-tick c).Start,
+      start_is (goal.at.returns-then-start-tick c).After-day_start-start,
+      read_is
+          _ (here_fits c),
+    )
     (sym (within_written c.args.leaps.now c.requires.right c.args.tick _ (here c)))
 
 -- it has not
@@ -88,7 +98,8 @@ overflow_sub-before c = rw (day_is c.before.before) (day_fits c)
 pub day_start-start-requires-2 : goal.day_start-start-requires-2
 day_start-start-requires-2 c = rw (day_is c.before.before, read_is _ (day_fits c)) (nearby c)
 
-start_is_2 : (c : After-day_start-start-2) → read c.day_start-start-2.result ≡ day_start c.args.leaps.now (latest_day c.args.tick -ℤ pos 1)
+start_is_2 : (c : After-day_start-start-2) → read c.day_start-start-2.result
+    ≡ day_start c.args.leaps.now (latest_day c.args.tick -ℤ pos 1)
 start_is_2 c =
     read_is _ (record { sfits = c.day_start-start-2.type_inv })
     ∙ (rw (day_is c.before.before.before, read_is _ (day_fits c.before)) at c.day_start-start-2.ensures)
@@ -97,7 +108,8 @@ there : (c : Else-start-tick) → Within c.args.leaps.now c.args.tick (latest_da
 there c =
     before_within c.args.leaps.now c.requires.right c.args.tick (writable c.args.tick c.requires.valid (grind (arith, ints))) (not_begun c)
 
-there_fits : (c : Else-start-tick) → SFits w64 (c.args.tick -ℤ day_start c.args.leaps.now (latest_day c.args.tick -ℤ pos 1))
+there_fits : (c : Else-start-tick)
+    → SFits w64 (c.args.tick -ℤ day_start c.args.leaps.now (latest_day c.args.tick -ℤ pos 1))
 there_fits c = ticks_fit c.args.leaps.now c.args.tick _ c.requires.right (there c)
 
 pub overflow_sub-result-2 : goal.overflow_sub-result-2

@@ -36,17 +36,24 @@ returns-in_default c =
 pub returns-in-OutsideTable : goal.returns-in-OutsideTable
 returns-in-OutsideTable c =
     let no = sym c.take_step.ensures ∙ c.in-OutsideTable.is in
-    c.refused.ensures ∙ sym (outside_table _ _ _ c.loop-done.done c.loop-done.epoch c.loop-done-test.true _ (by (goal.at.returns-in-OutsideTable c).After-take_step) no) ∙ whole (goal.at.returns-in-OutsideTable c).At-loop-done
+    c.refused.ensures
+    ∙ sym (outside_table _ _ _ c.loop-done.done c.loop-done.epoch c.loop-done-test.true _ (by (goal.at.returns-in-OutsideTable c).After-take_step) no)
+    ∙ whole (goal.at.returns-in-OutsideTable c).At-loop-done
 
 pub returns-in-OutsideRange : goal.returns-in-OutsideRange
 returns-in-OutsideRange c =
     let no = sym c.take_step.ensures ∙ c.in-OutsideRange.is in
-    c.refused-in-OutsideRange.ensures ∙ sym (outside_range _ _ _ c.loop-done.done c.loop-done.epoch c.loop-done-test.true _ (by (goal.at.returns-in-OutsideRange c).After-take_step) no) ∙ whole (goal.at.returns-in-OutsideRange c).At-loop-done
+    c.refused-in-OutsideRange.ensures
+    ∙ sym (outside_range _ _ _ c.loop-done.done c.loop-done.epoch c.loop-done-test.true _ (by (goal.at.returns-in-OutsideRange c).After-take_step) no)
+    ∙ whole (goal.at.returns-in-OutsideRange c).At-loop-done
 
 pub loop-done-preserved : goal.loop-done-preserved
 loop-done-preserved c =
-    let yes = sym c.take_step.ensures ∙ c.in-Reached.is in
-    (search rules, sym (further _ _ _ c.loop-done.done c.loop-done.epoch c.loop-done-test.true _ (by (goal.at.loop-done-preserved c).After-take_step) _ yes) ∙ c.loop-done.invariant.1)
+    let yes = sym c.take_step.ensures ∙ c.in-Reached.is in (
+      search rules,
+      sym (further _ _ _ c.loop-done.done c.loop-done.epoch c.loop-done-test.true _ (by (goal.at.loop-done-preserved c).After-take_step) _ yes)
+          ∙ c.loop-done.invariant.1,
+    )
 
 pub returns : goal.returns
 returns c = sym (no_walk_left _ _ _ c.loop-done.done c.loop-done.epoch c.loop-done-test.false) ∙ whole (goal.at.returns c).At-loop-done

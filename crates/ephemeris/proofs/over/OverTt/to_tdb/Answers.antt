@@ -43,7 +43,12 @@ pub place_of-requires : goal.place_of-requires
 place_of-requires c = record { bounds = c.requires.bounds; inside = within c }
 
 pub tdb_at-tdb-requires : goal.tdb_at-tdb-requires
-tdb_at-tdb-requires c = record { accepted = c.requires; inside = rw c.place_of.ensures (placed c.args.table c.args.self.0.0 (within (goal.at.tdb_at-tdb-requires c).Else-not-inside)) }
+tdb_at-tdb-requires c =
+    record {
+      accepted = c.requires;
+      inside =
+          rw c.place_of.ensures (placed c.args.table c.args.self.0.0 (within (goal.at.tdb_at-tdb-requires c).Else-not-inside));
+    }
 
 pub returns : goal.returns
 returns c =
