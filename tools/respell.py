@@ -7,8 +7,8 @@ A name is the repository's own if an .antt file of crates/ declares it: a defini
 record's field, a constructor or a local. `nearestTick` and `near-first` become `nearest_tick` and
 `near_first`. Types, modules, names with an operator in them, names of the library and names that
 are made for goals (proofs/*/Proof.antt declares those) stay. Where two names of one file would fall
-together, APART says what one of them becomes. Pages (README.md, docs/) follow where a name stands in
-code marks. --check writes nothing and says what would fall together.
+together, a lemma that would get its definition's name gets `_lem`. Pages (README.md, docs/) follow
+where a name stands in code marks. --check writes nothing and says what would fall together.
 """
 
 import os
@@ -21,6 +21,8 @@ DECLARED = re.compile(
     r"^\s*(?:(?:pub|abbrev|unfoldable)\s+)*([^\s(){}.,;:\[\]\"`|=]+)(?:\s*\{[^}]*\})?\s+:\s"
 )
 LOCAL = re.compile(r"\blet\s+([^\s(){}.,;:\[\]\"`|=]+)\s+[:=]")
+OF_GOALS = re.compile(r"(tie|goal)\.(Need|invariant|decreases)")
+MARKED = re.compile(r"`[^`\n]*`")
 HUMP = re.compile(r"(?<=[a-z0-9])([A-Z])")
 
 # names that would fall together with a definition's: a lemma named like it
@@ -54,7 +56,7 @@ def declared(root):
             for line in f:
                 line = code_of(line)
                 found = DECLARED.match(line)
-                if found and not (walk and re.search(r"(tie|goal)\.(Need|invariant|decreases)", line)):
+                if found and not (walk and OF_GOALS.search(line)):
                     names.add(found.group(1))
                 names.update(LOCAL.findall(line))
     return {n for n in names if PLAIN.match(n)}
@@ -73,7 +75,8 @@ def imported(root):
                 module = found.group(1)
                 ours = module.startswith("Rattle.") and not module.startswith("Rattle.std.")
                 if not ours:
-                    names.update(part.split(" as ")[0].strip() for part in found.group(2).split(","))
+                    parts = found.group(2).split(",")
+                    names.update(part.split(" as ")[0].strip() for part in parts)
     return names
 
 
@@ -135,18 +138,17 @@ def turn_code(text, names):
         code = code_of(line) if not line.lstrip().startswith("//") else ""
         rest = line[len(code):]
         code = TOKEN.sub(lambda m: names.get(m.group(0), m.group(0)), code)
-        rest = re.sub(r"`[^`]*`", lambda m: TOKEN.sub(lambda t: names.get(t.group(0), t.group(0)), m.group(0)), rest)
-        lines.append(code + rest)
+        lines.append(code + turn_marked(rest, names))
     return "\n".join(lines)
 
 
 def turn_clauses(text, names):
-    """Of a .rt file, the `ghost use` items, the clauses and the names in code marks of a comment."""
+    """Of a .rt file, `ghost use` items, clauses, and the names in code marks of a comment."""
     out, depth, ghost = [], 0, False
     for line in text.split("\n"):
         start = line.lstrip()
         if start.startswith("//"):
-            line = re.sub(r"`[^`]*`", lambda m: TOKEN.sub(lambda t: names.get(t.group(0), t.group(0)), m.group(0)), line)
+            line = turn_marked(line, names)
         elif depth or ghost or re.match(r"(ghost use|requires|ensures|ghost)\b", start):
             line = TOKEN.sub(lambda m: names.get(m.group(0), m.group(0)), line)
             if re.match(r"ghost use\b", start) or ghost:
@@ -157,8 +159,11 @@ def turn_clauses(text, names):
     return "\n".join(out)
 
 
-def turn_page(text, names):
-    return re.sub(r"`[^`\n]*`", lambda m: TOKEN.sub(lambda t: names.get(t.group(0), t.group(0)), m.group(0)), text)
+def turn_marked(text, names):
+    """The names in code marks."""
+    return MARKED.sub(
+        lambda m: TOKEN.sub(lambda t: names.get(t.group(0), t.group(0)), m.group(0)), text
+    )
 
 
 def together(root, names):
@@ -189,11 +194,12 @@ def main():
         if new != old:
             with open(path, "w", encoding="utf-8") as f:
                 f.write(new)
-    pages = ["README.md"] + [os.path.join("docs", p) for p in os.listdir("docs") if p.endswith(".md")]
+    papers = sorted(p for p in os.listdir("docs") if p.endswith(".md"))
+    pages = ["README.md"] + [os.path.join("docs", p) for p in papers]
     for page in pages:
         with open(page, encoding="utf-8") as f:
             old = f.read()
-        new = turn_page(old, names)
+        new = turn_marked(old, names)
         if new != old:
             with open(page, "w", encoding="utf-8") as f:
                 f.write(new)
