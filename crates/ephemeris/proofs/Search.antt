@@ -1,9 +1,10 @@
 -- What the place of the earliest tick is, and what a search has to show to have found it. Assumes
 -- nothing.
 use mathlib.Core.Path.{◌≡◌, sym}
+use mathlib.Core.Bool.{true, false}
 use mathlib.Core.Logic.{⊎_elim}
 use mathlib.Core.List.{List}
-use Prim.Native.Nat.{ℕ, suc, ◌-◌, ◌≤◌, ◌<◌}
+use Prim.Native.Nat.{ℕ, suc, ◌+◌, ◌-◌, ◌≤◌, ◌<◌}
 use native.Mathlib.Omega.{arith}
 use lib.IntN.{ℤ}
 use lib.Signed.{◌≤ℤ◌, ◌<ℤ◌, lt_z}
@@ -14,6 +15,7 @@ use Rattle.numbers.proofs.Places.{First, first_is, lowest_first}
 use Rattle.image.specs.declared.table.Table.{Table}
 use Rattle.ephemeris.specs.Table.{last_place, tdb_at, earliest_place}
 use Rattle.ephemeris.specs.Accepted.{Accepted}
+use Rattle.ephemeris.specs.Asked.{ThisOrBefore}
 use Rattle.ephemeris.proofs.Order.{tdb_order}
 
 le_lt : (x y z : ℤ) → x ≤ℤ y → y <ℤ z → x <ℤ z
@@ -56,6 +58,17 @@ module _ (T : Table) (cs : List ℤ) (asked : ℤ) where
       (tdb_order T cs A (earliest_place T cs asked) i k (omega arith)))))
       (λ (k : i < earliest_place T cs asked). k)
       (le_or_lt (earliest_place T cs asked) i)
+
+  -- where it is at the place i or at the one before, a look at the one before decides
+  pub is_this : (i : ℕ) → ThisOrBefore T cs asked i → (i ≡ 0 → ⊥) → lt_z (tdb_at T cs (i - 1)) asked ≡ true
+      → i ≡ earliest_place T cs asked
+  is_this i w some h =
+      let later = earliest_later w.placed.accepted (i - 1) (omega (arith, w.placed.inside)) (lt_yes _ _ h) in
+      omega (arith, w.to)
+
+  pub is_before : (i : ℕ) → ThisOrBefore T cs asked i → lt_z (tdb_at T cs (i - 1)) asked ≡ false
+      → i - 1 ≡ earliest_place T cs asked
+  is_before i w h = let least = earliest_least (i - 1) (lt_no _ _ h) in omega (arith, w.from)
 
   -- what a search has to show: it is reached here, or here is the end; and the tick before is
   -- before the asked

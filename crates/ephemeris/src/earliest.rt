@@ -29,6 +29,7 @@ fn pointed(table: Table, asked: Tdb, delay: i64) -> u64
 }
 
 // One look decides between a place and the one before.
+#[tactic(auto, using(crate::proofs::Search::is_this, crate::proofs::Search::is_before))]
 fn this_or_before(table: Table, coefficients: &[i64], asked: Tdb, place: u64) -> u64
     requires { ThisOrBefore table coefficients.now asked.0 place }
     ensures { result ≡ earliest_place table coefficients.now asked.0 }

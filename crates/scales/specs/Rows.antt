@@ -7,7 +7,6 @@ use Rattle.scales.specs.declared.answer.Stepped.TheVariants.{OutsideRange}
 use Rattle.scales.specs.declared.path.Line.{Line}
 use Rattle.scales.specs.declared.path.Line.TheVariants.{GpsTai, TaiTt, TcgTt, TcbTdb}
 use Rattle.scales.specs.declared.path.Edge.{Edge}
-use Rattle.scales.specs.declared.path.Edge.TheVariants as Edge
 use Rattle.scales.specs.declared.path.Ends.{Ends}
 use Rattle.scales.specs.declared.path.Step.{Step}
 use Rattle.scales.specs.declared.path.Step.TheVariants.{Along, Back}

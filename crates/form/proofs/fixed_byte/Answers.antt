@@ -1,6 +1,5 @@
 -- `form::fixed_byte` meets its contract. Assumes nothing.
 use Rattle.form.specs.Form.{fixed_byte, head_byte}
-use borrow.Author.Rules.{rules}
 use borrow.Author.Tests.{lt-ltb, le-ltb, eq-eqb, ne_eqb}
 use mathlib.Core.Path.{◌∙◌, ap}
 use Rattle.form.proofs.fixed_byte.Goals as goal

@@ -5,8 +5,6 @@ use Rattle.form.proofs.FreeBytes.{Slot, slot_told, slot_is, free_more, rest_at, 
 use Rattle.form.specs.Asked.{FreeRun}
 use Rattle.granule.specs.Bounds.{most_degree}
 use Rattle.form.specs.Form.{is_free}
-use borrow.Author.Rules.{rules}
-use borrow.Author.Tests.{not-true, not-false}
 use mathlib.Core.Bool.{true, false}
 use mathlib.Core.Path.{◌≡◌, sym, ◌∙◌, ap}
 use native.Mathlib.Nat.{not-suc-le-zero}

@@ -1,6 +1,5 @@
 -- `form::head_byte` meets its contract. Assumes nothing.
 use Rattle.form.specs.Form.{head_byte}
-use borrow.Author.Rules.{rules}
 use borrow.Author.Tests.{eq-eqb, ne_eqb}
 use Rattle.form.proofs.head_byte.Goals as goal
 

@@ -6,7 +6,6 @@ use Rattle.form.specs.Form.{head_byte, granules_in, fixed_byte}
 use Rattle.words.specs.Words.{byte_of, word_at, block}
 use Rattle.numbers.proofs.Places.{every_is, every_at}
 use Rattle.numbers.specs.Lowest.{every}
-use borrow.Author.Rules.{rules}
 use borrow.Author.Tests.{eqb-true, eqb-false, eq-eqb, ne_eqb}
 use lib.Dec.{eqb}
 use lib.ListN.{get_or}

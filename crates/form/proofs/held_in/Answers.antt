@@ -1,6 +1,5 @@
 -- `form::held_in` meets its contract. Assumes nothing.
 use Rattle.form.specs.Form.{granules_in}
-use borrow.Author.Rules.{rules}
 use borrow.Author.Tests.{lt-ltb, le-ltb}
 use Rattle.form.proofs.held_in.Goals as goal
 

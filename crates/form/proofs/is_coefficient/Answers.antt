@@ -1,6 +1,5 @@
 -- `form::is_coefficient` meets its contract. Assumes nothing.
 use Rattle.form.specs.Form.{is_coefficient}
-use borrow.Author.Rules.{rules}
 use borrow.Author.Tests.{lt-ltb, le-ltb, le-leb, lt-leb}
 use Rattle.form.proofs.is_coefficient.Goals as goal
 

@@ -1,6 +1,5 @@
 -- `form::is_free` meets its contract. Assumes nothing.
 use Rattle.form.proofs.FreeBytes.{free_zero, free_more}
-use borrow.Author.Rules.{rules}
 use mathlib.Core.Path.{sym, ◌∙◌}
 use Rattle.form.proofs.is_free.Goals as goal
 

@@ -1,4 +1,4 @@
-use Prim.Native.Nat.{ℕ, ◌+◌, ◌-◌, ◌≤◌, ◌<◌, zero-le}
+use Prim.Native.Nat.{ℕ, ◌+◌, ◌-◌, ◌<◌, zero-le}
 use Rattle.numbers.proofs.Places.{first_is, every_is, every_not}
 use Rattle.form.specs.Asked.{RightRun}
 use Rattle.form.specs.Form.{is_formed, is_right}

@@ -1,15 +1,10 @@
 -- `form::lowest_unformed` meets its contract. Outside: every block passed is formed. Inside: every
 -- byte passed is right. Assumes nothing.
-use Prim.Native.Nat.{ℕ, ◌+◌, ◌-◌, ◌≤◌, ◌<◌, zero-le}
-use Rattle.numbers.proofs.Places.{first_is, every_is, every_not}
-use Rattle.form.specs.Asked.{RightRun}
+use Prim.Native.Nat.{ℕ, ◌-◌, ◌≤◌, ◌<◌}
 use Rattle.form.specs.Form.{is_formed, is_right}
 use Rattle.words.specs.Words.{block}
-use borrow.Author.Count.{below_none, below_more}
-use mathlib.Core.Bool.{true, false}
-use mathlib.Core.Path.{◌≡◌, refl, ◌∙◌, subst}
-use native.Mathlib.Decide.{dec_lt}
-use native.Mathlib.Omega.{arith}
+use mathlib.Core.Bool.{true}
+use mathlib.Core.Path.{◌≡◌}
 use Rattle.form.proofs.lowest_unformed.Given as goal
 
 abbrev pub invariant-loop-j : goal.invariant-loop-j

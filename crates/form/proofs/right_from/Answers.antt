@@ -6,8 +6,7 @@ use Rattle.form.specs.Form.{fixed_byte, is_right}
 use Rattle.words.specs.Words.{from, block}
 use Rattle.numbers.proofs.Places.{every_at}
 use Rattle.numbers.specs.Lowest.{every}
-use borrow.Author.Rules.{rules}
-use borrow.Author.Tests.{eqb-true, eqb-false, not-true}
+use borrow.Author.Tests.{eqb-true}
 use lib.Dec.{eqb}
 use lib.ListN.{get_or}
 use mathlib.Core.Bool.{true, false}

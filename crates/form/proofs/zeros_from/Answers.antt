@@ -1,9 +1,7 @@
-use Prim.Native.Nat.{ℕ, ◌-◌, ◌≤◌, ◌<◌, zero-le}
+use Prim.Native.Nat.{zero-le}
 use Rattle.words.proofs.Digits.{zero_word, zero_quad, zero_more}
-use Rattle.words.specs.Words.{from}
 use borrow.Author.Count.{below_none}
-use borrow.Author.Tests.{eqb-true}
-use mathlib.Core.Path.{◌≡◌, sym, ◌∙◌}
+use mathlib.Core.Path.{sym, ◌∙◌}
 use native.Mathlib.Omega.{arith}
 use Rattle.form.proofs.zeros_from.Goals as goal
 

@@ -1,11 +1,7 @@
 -- `form::zeros_from` meets its contract: what makes up 0 is 0, byte by byte. Assumes nothing.
-use Prim.Native.Nat.{ℕ, ◌-◌, ◌≤◌, ◌<◌, zero-le}
-use Rattle.words.proofs.Digits.{zero_word, zero_quad, zero_more}
+use Prim.Native.Nat.{ℕ, ◌-◌, ◌≤◌, ◌<◌}
 use Rattle.words.specs.Words.{from}
-use borrow.Author.Count.{below_none}
-use borrow.Author.Tests.{eqb-true}
-use mathlib.Core.Path.{◌≡◌, sym, ◌∙◌}
-use native.Mathlib.Omega.{arith}
+use mathlib.Core.Path.{◌≡◌}
 use Rattle.form.proofs.zeros_from.Given as goal
 
 abbrev pub invariant-loop-zeros : goal.invariant-loop-zeros

@@ -1,13 +1,8 @@
 use borrow.Author.Rules.{rules}
 use mathlib.Core.Path.{◌≡◌}
-use Prim.Native.Nat.{◌-◌, ◌≤◌}
 use native.Mathlib.Nat.{le_refl}
 use native.Mathlib.Omega.{arith}
-use lib.IntN.{pos, ◌-ℤ◌}
-use lib.ListN.{length, get_or, drop}
-use mir.Syntax.{w64}
-use mir.Val.{SFits}
-use Rattle.numbers.proofs.Machine.{read}
+use lib.IntN.{◌-ℤ◌}
 use Rattle.granule.specs.Tests.{alternating_sum}
 use Rattle.granule.proofs.Sums.{alternating_joins, sum_begins, sum_turns}
 use Rattle.granule.proofs.alternating.Goals as goal

@@ -1,6 +1,5 @@
 -- `granule::argument` meets its contract: the digits of `Digits`, whose sizes keep every number
 -- within 64 bits. Assumes nothing.
-use borrow.Author.Rules.{rules}
 use mathlib.Core.Path.{sym, ◌∙◌}
 use Prim.Native.Nat.{◌^◌, ◌≤◌, ◌<◌}
 use native.Mathlib.Nat.{le_refl}

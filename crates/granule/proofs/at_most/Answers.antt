@@ -1,7 +1,7 @@
 -- `granule::at_most` meets its contract: x − 1024 is compared where it fits, and where it does not,
 -- no y is so far below x. Assumes nothing.
 use borrow.Author.Rules.{rules}
-use mathlib.Core.Path.{◌≡◌, sym}
+use mathlib.Core.Path.{sym}
 use Prim.Native.Nat.{◌^◌, ◌≤◌}
 use native.Mathlib.Omega.{arith}
 use lib.IntN.{ℤ, pos, negsuc, ◌-ℤ◌, nat_abs}
@@ -9,7 +9,7 @@ use lib.Signed.{◌≤ℤ◌, ◌<ℤ◌}
 use mir.Syntax.{w64}
 use mir.Val.{SFits}
 use Rattle.numbers.proofs.Differences.{rep, rep₂, lin}
-use Rattle.numbers.proofs.Machine.{lt_yes, lt_no, yes_le, read, read_is, fits_size, fits_under, fits_range, same_le}
+use Rattle.numbers.proofs.Machine.{lt_yes, lt_no, yes_le, read_is, fits_size, fits_under, fits_range, same_le}
 use Rattle.granule.proofs.at_most.Goals as goal
 use Rattle.granule.proofs.at_most.Goals.{Else-x-ltminus9223372036854774784}
 

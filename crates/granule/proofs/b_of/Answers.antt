@@ -1,6 +1,5 @@
 -- `granule::b_of` meets its contract: b_k is the term of `Term`, with the product that `rounded29`
 -- ensures. Assumes nothing.
-use borrow.Author.Rules.{rules}
 use mathlib.Core.Path.{◌≡◌, ◌∙◌, ap}
 use Prim.Native.Nat.{◌^◌}
 use lib.Dec.{lit≤}

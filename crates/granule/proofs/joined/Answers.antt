@@ -1,6 +1,5 @@
 -- `granule::joined` meets its contract: |plain − alternating| is at most 1024 where neither is more
 -- than 1024 above the other. Assumes nothing.
-use borrow.Author.Rules.{rules}
 use mathlib.Core.Path.{◌≡◌, sym, ◌∙◌}
 use mathlib.Core.Bool.{◌&&◌}
 use native.Mathlib.Omega.{arith}

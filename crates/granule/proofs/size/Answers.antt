@@ -1,11 +1,8 @@
 -- `granule::size` meets its contract. Below zero it is taken from −1 − c, which fits where −c does
 -- not. Assumes nothing.
 use borrow.Author.Rules.{rules}
-use mathlib.Core.Path.{◌≡◌}
 use native.Mathlib.Omega.{arith}
-use mir.Syntax.{w64}
-use mir.Val.{SFits}
-use Rattle.numbers.proofs.Machine.{lt_yes, lt_no, read, read_is, Flipped, flipped, natural_cast}
+use Rattle.numbers.proofs.Machine.{lt_yes, lt_no, read_is, Flipped, flipped, natural_cast}
 use Rattle.granule.proofs.size.Goals as goal
 use Rattle.granule.proofs.size.Goals.{Then-c-lt0}
 

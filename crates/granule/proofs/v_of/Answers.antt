@@ -1,6 +1,5 @@
 -- `granule::v_of` meets its contract: v is the term of `Term`, with the product that `rounded30`
 -- ensures. Assumes nothing.
-use borrow.Author.Rules.{rules}
 use mathlib.Core.Path.{◌≡◌, ◌∙◌, ap}
 use Prim.Native.Nat.{◌^◌}
 use lib.Dec.{lit≤}

@@ -9,7 +9,6 @@ use Rattle.granules.specs.Tests.{own_rules}
 use Rattle.granules.specs.declared.Next.TheVariants.{Onward}
 use Rattle.granules.specs.declared.Scan.{Scan}
 use Rattle.numbers.specs.Tests.{rank}
-use borrow.Author.Rules.{rules}
 use borrow.Author.Tests.{eq-eqb, ne_eqb, lt-ltb, le-ltb}
 use lib.IntN.{ℤ}
 use mathlib.Core.List.{List}

@@ -5,7 +5,6 @@ use Rattle.granule.specs.Asked.{Summable}
 use Rattle.granule.specs.Bounds.{most_degree}
 use Rattle.granule.specs.Tests.{is_small, is_light}
 use Rattle.numbers.proofs.Ranks.{ranks}
-use borrow.Author.Rules.{rules}
 use borrow.Author.Tests.{not-false}
 use lib.IntN.{ℤ}
 use lib.ListN.{length}

@@ -1,7 +1,6 @@
 -- `granules::rank_of` meets its contract. Assumes nothing.
 use Rattle.granule.specs.Tests.{is_joined, alternating_sum}
 use Rattle.granules.specs.Pass.{joined_rank}
-use borrow.Author.Rules.{rules}
 use borrow.Author.Tests.{eq-eqb, ne_eqb, lt-ltb, le-ltb}
 use mathlib.Core.Path.{◌≡◌, sym, ◌∙◌, ap}
 use Rattle.granules.proofs.rank_of.Goals as goal

@@ -1,6 +1,6 @@
 use Prim.Native.Nat.{ℕ, ◌+◌, ◌*◌, ◌-◌, ◌≤◌, zero-le}
 use Rattle.granules.proofs.Alike.{alike_same}
-use Rattle.granules.proofs.Scanning.{Scanned, scanned_none, scanned_next, scanned_lowest, scanned_all}
+use Rattle.granules.proofs.Scanning.{scanned_none, scanned_next, scanned_lowest, scanned_all}
 use Rattle.granules.specs.Answers.{tested_listed}
 use Rattle.image.proofs.Back.{granule_of_list, granule_width}
 use Rattle.image.proofs.Bounding.{as_natural}
@@ -13,7 +13,6 @@ use lib.ListN.{length, take, drop}
 use mathlib.Core.List.{List}
 use mathlib.Core.Path.{◌≡◌, refl, sym, ◌∙◌, ap}
 use mir.Syntax.{w64}
-use mir.Val.{to_z, of_z}
 use mir.ValLaws.{to_z-of_z}
 use native.Mathlib.Omega.{arith}
 use Rattle.granules.proofs.test_listed.Goals as goal

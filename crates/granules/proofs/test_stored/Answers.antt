@@ -1,6 +1,6 @@
-use Prim.Native.Nat.{◌-◌, ◌≤◌, zero-le}
+use Prim.Native.Nat.{zero-le}
 use Rattle.granules.proofs.Alike.{Alike, stored_alike}
-use Rattle.granules.proofs.Scanning.{Scanned, scanned_none, scanned_next, scanned_lowest, scanned_all}
+use Rattle.granules.proofs.Scanning.{scanned_none, scanned_next, scanned_lowest, scanned_all}
 use Rattle.granules.specs.Answers.{tested_stored}
 use Rattle.image.proofs.Back.{stored_length}
 use Rattle.image.proofs.Bounding.{as_natural}
@@ -11,7 +11,6 @@ use lib.IntN.{nat_abs}
 use lib.ListN.{length}
 use mathlib.Core.Path.{◌≡◌, refl, sym, ◌∙◌, ap}
 use mir.Syntax.{w64}
-use mir.Val.{to_z, of_z}
 use mir.ValLaws.{to_z-of_z}
 use native.Mathlib.Nat.{le_of_eq}
 use native.Mathlib.Omega.{arith}

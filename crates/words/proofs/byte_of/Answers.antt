@@ -1,7 +1,5 @@
 -- `words::byte_of` meets its contract: in each arm j is a number, at which the definition computes.
 -- Assumes nothing.
-use Prim.Native.Nat.{ℕ, ◌+◌, ◌≤◌, ◌<◌, zero-le}
-use borrow.Author.Rules.{rules}
 use mathlib.Core.Path.{◌≡◌}
 use native.Mathlib.Omega.{arith}
 use Rattle.words.proofs.byte_of.Goals as goal

@@ -2,7 +2,6 @@
 -- nothing.
 use Prim.Native.Nat.{ℕ, ◌+◌, ◌*◌, ◌-◌, ◌<◌}
 use Rattle.words.specs.Words.{quad_at, from}
-use borrow.Author.Rules.{rules}
 use lib.ListN.{get_or, take, drop}
 use lib.Seq.{get_or-take, get_or-drop}
 use mathlib.Core.List.{List}

@@ -2,7 +2,6 @@
 -- top. Assumes nothing.
 use Prim.Native.Nat.{ℕ, suc, ◌-◌, ◌≤◌, ◌<◌, ◌^◌}
 use Rattle.numbers.proofs.Differences.{rep, lin}
-use borrow.Author.Rules.{rules}
 use lib.IntN.{ℤ, pos, negsuc, ◌-ℤ◌}
 use mathlib.Core.Path.{◌≡◌, refl, sym, ◌∙◌, ap}
 use mir.Syntax.{w64}

@@ -2,7 +2,6 @@
 -- nothing overflows, is found without more. Assumes nothing.
 use Prim.Native.Nat.{ℕ, ◌+◌, ◌*◌}
 use Rattle.words.specs.Words.{quad_at, word_at}
-use borrow.Author.Rules.{rules}
 use mathlib.Core.List.{List}
 use mathlib.Core.Path.{◌≡◌}
 use native.Mathlib.Omega.{arith}

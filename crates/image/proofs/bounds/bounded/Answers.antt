@@ -6,8 +6,7 @@ use Rattle.image.specs.declared.table.Table.{Table}
 use Rattle.numbers.proofs.Machine.{lt_no}
 use Rattle.scales.specs.Tick.{is_valid}
 use borrow.Author.Rules.{rules}
-use borrow.Author.Tests.{not-true, not-false}
-use lib.IntN.{ℤ, pos, ◌+ℤ◌, ◌*ℤ◌}
+use lib.IntN.{pos, ◌+ℤ◌, ◌*ℤ◌}
 use lib.Signed.{lt_z}
 use mathlib.Core.Bool.{true, false}
 use mathlib.Core.Path.{◌≡◌, sym, ◌∙◌}

@@ -2,7 +2,6 @@
 use Rattle.form.proofs.FreeBytes.{free_zero, free_more}
 use Rattle.form.specs.Form.{is_free, is_number, is_coefficient}
 use Rattle.image.specs.Image.{body_byte}
-use borrow.Author.Rules.{rules}
 use borrow.Author.Tests.{eq-eqb, ne_eqb}
 use mathlib.Core.Bool.{Bool, true, false}
 use mathlib.Core.Path.{◌≡◌, sym, ◌∙◌}

@@ -1,6 +1,5 @@
 -- `image::put::put_block` meets its contract. Assumes nothing.
 use Rattle.image.proofs.Stores.{put_sealed}
-use borrow.Author.Rules.{rules}
 use Rattle.image.proofs.put.put_block.Goals as goal
 
 pub returns : goal.returns

@@ -1,7 +1,5 @@
-use Prim.Native.Nat.{◌*◌, ◌-◌, ◌≤◌, zero-le}
+use Prim.Native.Nat.{zero-le}
 use Rattle.image.proofs.Stores.{put_none, put_more}
-use Rattle.image.specs.Asked.{Stores}
-use Rattle.image.specs.Image.{body_byte}
 use borrow.Author.Rules.{rules}
 use mathlib.Core.Path.{◌≡◌}
 use native.Mathlib.Omega.{arith}

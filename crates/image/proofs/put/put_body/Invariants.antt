@@ -1,12 +1,8 @@
 -- `image::put::put_body` meets its contract. Each byte put so far is the definition's, and those
 -- before the block are as they were. Assumes nothing.
-use Prim.Native.Nat.{◌*◌, ◌-◌, ◌≤◌, zero-le}
-use Rattle.image.proofs.Stores.{put_none, put_more}
+use Prim.Native.Nat.{◌*◌, ◌-◌, ◌≤◌}
 use Rattle.image.specs.Asked.{Stores}
 use Rattle.image.specs.Image.{body_byte}
-use borrow.Author.Rules.{rules}
-use mathlib.Core.Path.{◌≡◌}
-use native.Mathlib.Omega.{arith}
 use Rattle.image.proofs.put.put_body.Given as goal
 
 abbrev pub invariant-loop-j : goal.invariant-loop-j

@@ -1,11 +1,9 @@
-use Prim.Native.Nat.{ℕ, ◌*◌, ◌-◌, ◌≤◌, ◌<◌, zero-le}
+use Prim.Native.Nat.{zero-le}
 use Rattle.numbers.proofs.Places.{is_up_to}
 use Rattle.image.proofs.Stores.{image_more}
-use Rattle.form.specs.Form.{blocks_of}
-use Rattle.image.specs.Image.{image_byte, image_of}
+use Rattle.image.specs.Image.{image_of}
 use borrow.Author.Rules.{rules}
-use lib.ListN.{length, get_or}
-use mathlib.Core.Path.{◌≡◌, refl, ◌∙◌}
+use mathlib.Core.Path.{refl, ◌∙◌}
 use native.Mathlib.Nat.{not-suc-le-zero}
 use native.Mathlib.Omega.{arith}
 use Rattle.image.proofs.put.put_image.Goals as goal

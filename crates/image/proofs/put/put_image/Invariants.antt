@@ -1,15 +1,10 @@
 -- `image::put::put_image` meets its contract. Each byte below the next block is the image's.
 -- Assumes nothing.
-use Prim.Native.Nat.{ℕ, ◌*◌, ◌-◌, ◌≤◌, ◌<◌, zero-le}
-use Rattle.numbers.proofs.Places.{is_up_to}
-use Rattle.image.proofs.Stores.{image_more}
+use Prim.Native.Nat.{ℕ, ◌*◌, ◌-◌, ◌≤◌, ◌<◌}
 use Rattle.form.specs.Form.{blocks_of}
-use Rattle.image.specs.Image.{image_byte, image_of}
-use borrow.Author.Rules.{rules}
+use Rattle.image.specs.Image.{image_byte}
 use lib.ListN.{length, get_or}
-use mathlib.Core.Path.{◌≡◌, refl, ◌∙◌}
-use native.Mathlib.Nat.{not-suc-le-zero}
-use native.Mathlib.Omega.{arith}
+use mathlib.Core.Path.{◌≡◌}
 use Rattle.image.proofs.put.put_image.Given as goal
 
 abbrev pub invariant-loop-k : goal.invariant-loop-k

@@ -1,6 +1,5 @@
 -- `image::put::seal` meets its contract: four stores. Assumes nothing.
 use Rattle.image.proofs.Stores.{seal_is}
-use borrow.Author.Rules.{rules}
 use lib.ListN.{length-set}
 use native.Mathlib.Omega.{arith}
 use Rattle.image.proofs.put.seal.Goals as goal

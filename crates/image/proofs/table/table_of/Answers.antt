@@ -2,7 +2,6 @@
 use Prim.Native.Nat.{ℕ}
 use Rattle.image.specs.Image.{table_of}
 use Rattle.image.specs.declared.table.Table.{Table}
-use borrow.Author.Rules.{rules}
 use lib.IntN.{ℤ}
 use mathlib.Core.Path.{◌≡◌, ◌∙◌}
 use mir.Syntax.{w64}

@@ -1,7 +1,6 @@
 -- `image::take::coefficient` meets its contract. Assumes nothing.
 use Rattle.numbers.proofs.Machine.{read_is}
 use Rattle.image.specs.Image.{coefficient_at}
-use borrow.Author.Rules.{rules}
 use mathlib.Core.Path.{◌∙◌}
 use Rattle.image.proofs.take.coefficient.Goals as goal
 

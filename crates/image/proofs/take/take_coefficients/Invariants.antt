@@ -1,17 +1,10 @@
 -- `image::take::take_coefficients` meets its contract. Each coefficient taken so far is the one
 -- stored for its granule. Assumes nothing.
-use Prim.Native.Nat.{ℕ, ◌+◌, ◌-◌, ◌/◌, ◌%◌, ◌≤◌, ◌<◌, zero-le}
-use Rattle.numbers.proofs.Places.{is_up_to, written_more}
-use Rattle.image.proofs.Slots.{listed_stored}
-use Rattle.image.specs.Image.{coefficient_at, coefficients_stored}
-use borrow.Author.Count.{below_none}
-use borrow.Author.Rules.{rules}
+use Prim.Native.Nat.{ℕ, ◌+◌, ◌-◌, ◌/◌, ◌%◌, ◌≤◌, ◌<◌}
+use Rattle.image.specs.Image.{coefficient_at}
 use lib.IntN.{pos}
-use lib.ListN.{length, get_or, length-set}
-use mathlib.Core.Path.{◌≡◌, refl, ◌∙◌}
-use mir.Syntax.{w64}
-use mir.ValLaws.{to_z-of_z}
-use native.Mathlib.Omega.{arith}
+use lib.ListN.{length, get_or}
+use mathlib.Core.Path.{◌≡◌}
 use Rattle.image.proofs.take.take_coefficients.Given as goal
 
 abbrev pub invariant-loop-i : goal.invariant-loop-i

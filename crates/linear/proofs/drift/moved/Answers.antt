@@ -1,6 +1,5 @@
 -- `linear::drift::moved` meets its contract: what is at most 6·10^18 and moves by at most 10^12
 -- fits. Assumes nothing.
-use borrow.Author.Rules.{rules}
 use mathlib.Core.Path.{◌≡◌, ◌∙◌}
 use Prim.Native.Nat.{ℕ, ◌≤◌}
 use native.Mathlib.Omega.{arith}

@@ -1,5 +1,4 @@
 -- `linear::drift::tdb_loses` meets its contract: its row passes the test. Assumes nothing.
-use borrow.Author.Rules.{rules}
 use mathlib.Core.Path.{◌∙◌}
 use Rattle.pieces.proofs.Rows.{exact_share}
 use Rattle.linear.proofs.drift.tdb_loses.Goals as goal

@@ -1,12 +1,9 @@
 -- `linear::steps::along` meets its contract: the range is tested before and after. Assumes nothing.
 use borrow.Author.Rules.{rules}
-use borrow.Author.Tests.{not-true, not-false}
 use mathlib.Core.Path.{◌≡◌, sym, ◌∙◌}
 use mathlib.Core.Bool.{true}
 use Prim.Native.Nat.{◌≤◌}
 use lib.IntN.{nat_abs}
-use mir.Syntax.{w64}
-use mir.Val.{SFits}
 use Rattle.numbers.proofs.Machine.{read, read_is}
 use Rattle.scales.specs.Tick.{furthest, is_valid}
 use Rattle.scales.proofs.Range.{valid_size}

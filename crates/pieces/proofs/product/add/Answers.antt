@@ -1,6 +1,5 @@
 -- `pieces::product::add` meets its contract: it is the sum of four pieces from the low one on, with
 -- no carry. Assumes nothing.
-use borrow.Author.Rules.{rules}
 use mathlib.Core.Path.{◌∙◌, ap}
 use Prim.Native.Nat.{ℕ, ◌%◌, ◌^◌}
 use native.Mathlib.Omega.{arith}

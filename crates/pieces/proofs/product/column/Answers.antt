@@ -1,6 +1,5 @@
 -- `pieces::product::column` meets its contract: two pieces' product leaves room for two pieces
 -- more. Assumes nothing.
-use borrow.Author.Rules.{rules}
 use Prim.Native.Nat.{ℕ, ◌*◌, ◌<◌, ◌≤◌}
 use native.Mathlib.Nat.{mul-le-mul}
 use native.Mathlib.Omega.{arith}

@@ -1,6 +1,5 @@
 -- `pieces::product::multiply` meets its contract: its four columns are the two rows of a product of
 -- two pieces by two. Assumes nothing.
-use borrow.Author.Rules.{rules}
 use mathlib.Core.Path.{◌∙◌}
 use mathlib.Core.List.{[], ◌∷◌}
 use Prim.Native.Nat.{◌+◌, ◌*◌, ◌/◌, ◌%◌}

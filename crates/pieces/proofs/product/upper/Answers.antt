@@ -1,5 +1,4 @@
 -- `pieces::product::upper` meets its contract: nothing stands above four pieces. Assumes nothing.
-use borrow.Author.Rules.{rules}
 use borrow.Kind.Array.{good_length, e_int}
 use mathlib.Core.Path.{sym, ◌∙◌}
 use Prim.Native.Nat.{ℕ, ◌+◌, ◌*◌, ◌<◌}
@@ -8,7 +7,7 @@ use mir.Syntax.{w32, w64}
 use mir.Val.{Fits}
 use Rattle.numbers.proofs.Arrays.{array_fits}
 use Rattle.pieces.specs.Pieces.{base}
-use Rattle.pieces.proofs.Values.{Small, dropped, next, past}
+use Rattle.pieces.proofs.Values.{dropped, next, past}
 use Rattle.pieces.proofs.product.upper.Goals as goal
 
 -- a piece above another

@@ -1,7 +1,6 @@
 -- `pieces::share::share` meets its contract: the half fits above the low product, m1 is so narrow
 -- that the high one has no sign, and the low one's lower half is less than any unit of the shift.
 -- Assumes nothing.
-use borrow.Author.Rules.{rules}
 use borrow.Kind.Array.{good_length, e_int}
 use mathlib.Core.Path.{◌≡◌, ◌∙◌, ap, subst}
 use Prim.Native.Nat.{ℕ, suc, ◌+◌, ◌*◌, ◌/◌, ◌%◌, ◌^◌, ◌<◌, ◌≤◌, zero-le}

@@ -1,9 +1,8 @@
 -- `pieces::shift::shifted` meets its contract: the third piece, with its sign, is all that stands
 -- above the second, and a floor of a floor is one. Assumes nothing.
-use borrow.Author.Rules.{rules}
 use borrow.Kind.Array.{good_length, e_int}
 use mathlib.Core.Path.{◌≡◌, sym, ◌∙◌, ap}
-use Prim.Native.Nat.{ℕ, ◌+◌, ◌*◌, ◌^◌, ◌<◌, ◌≤◌}
+use Prim.Native.Nat.{ℕ, ◌^◌, ◌<◌}
 use native.Mathlib.Omega.{arith}
 use lib.Dec.{lit<}
 use lib.IntN.{ℤ, pos, negsuc, ◌+ℤ◌, ◌*ℤ◌}

@@ -1,6 +1,5 @@
 -- `pieces::shift::top` meets its contract: 2^31 added, modulo 2^32, and taken off again. Assumes
 -- nothing.
-use borrow.Author.Rules.{rules}
 use mathlib.Core.Path.{sym, ◌∙◌}
 use Prim.Native.Nat.{ℕ, ◌+◌, ◌%◌, ◌≤◌}
 use native.Mathlib.Omega.{arith}

@@ -1,6 +1,5 @@
 -- `pieces::signed::multiply` meets its contract: the pieces of the two columns, each on top of the
 -- one below. Assumes nothing.
-use borrow.Author.Rules.{rules}
 use mathlib.Core.Path.{◌≡◌, sym, ◌∙◌, ap}
 use mathlib.Core.List.{[]}
 use Prim.Native.Nat.{◌≤◌, ◌<◌, ◌^◌}

@@ -1,6 +1,5 @@
 -- `scales::path::crosses_table` meets its contract. A path crosses exactly where its ends lie on
 -- different sides. Assumes nothing.
-use borrow.Author.Rules.{rules}
 use mathlib.Core.Path.{◌≡◌, refl}
 use mathlib.Core.Bool.{not, beq}
 use Rattle.scales.specs.declared.scale.Scale.{Scale}

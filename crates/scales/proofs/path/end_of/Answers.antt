@@ -1,9 +1,7 @@
 -- `scales::path::end_of` meets its contract: a step back ends where its edge begins. Assumes
 -- nothing.
-use borrow.Author.Rules.{rules}
 use mathlib.Core.Path.{◌≡◌, refl}
 use Rattle.scales.specs.declared.path.Edge.{Edge}
-use Rattle.scales.specs.declared.path.Edge.TheVariants as Edge
 use Rattle.scales.specs.declared.path.Step.TheVariants.{Along, Back}
 use Rattle.scales.specs.Rows.{begin, end}
 use Rattle.scales.proofs.path.end_of.Goals as goal

@@ -1,5 +1,4 @@
 -- `scales::path::ends_of` meets its contract. Assumes nothing.
-use borrow.Author.Rules.{rules}
 use Rattle.scales.proofs.path.ends_of.Goals as goal
 
 pub returns-in_default : goal.returns-in_default

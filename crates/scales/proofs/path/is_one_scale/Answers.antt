@@ -1,5 +1,4 @@
 -- `scales::path::is_one_scale` meets its contract. Assumes nothing.
-use borrow.Author.Rules.{rules}
 use Rattle.scales.proofs.path.is_one_scale.Goals as goal
 
 pub returns : goal.returns

@@ -1,5 +1,4 @@
 -- `scales::path::leading_to` meets its contract. Assumes nothing.
-use borrow.Author.Rules.{rules}
 use Rattle.scales.proofs.path.leading_to.Goals as goal
 
 pub returns-in-Gps : goal.returns-in-Gps

@@ -1,5 +1,4 @@
 -- `scales::path::next_step` meets its contract. Assumes nothing.
-use borrow.Author.Rules.{rules}
 use Rattle.scales.proofs.path.next_step.Goals as goal
 
 pub returns-in-Gps : goal.returns-in-Gps

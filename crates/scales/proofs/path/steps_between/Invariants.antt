@@ -1,16 +1,11 @@
 -- `scales::path::steps_between` meets its contract. The steps walked, and the path that is left
 -- from where the walk stands, make up the whole path; the measure is what is left of the longest
 -- path. Assumes nothing.
-use borrow.Author.Rules.{rules}
-use mathlib.Core.Path.{◌≡◌, refl, sym, ◌∙◌, ap}
-use Prim.Native.Nat.{ℕ, suc, ◌+◌, ◌-◌, ◌≤◌, ◌<◌}
-use native.Mathlib.Omega.{arith}
+use mathlib.Core.Path.{◌≡◌}
+use Prim.Native.Nat.{ℕ, ◌+◌, ◌-◌, ◌≤◌}
 use lib.ListN.{length}
 use Rattle.scales.specs.declared.scale.Scale.{Scale}
-use Rattle.scales.specs.declared.path.Step.{Step}
-use Rattle.scales.specs.declared.path.Way.TheVariants.{Here, By}
-use Rattle.scales.specs.Path.{next, step_and_rest, path_within, longest_path, steps}
-use Rattle.scales.specs.Rows.{end}
+use Rattle.scales.specs.Path.{path_within, longest_path, steps}
 use Rattle.scales.proofs.path.steps_between.Given as goal
 
 -- what is left of a path, with so many steps walked

@@ -1,7 +1,7 @@
 -- `scales::scale::scale_named` meets its contract: in each arm the code is a number, at which the
 -- definition computes. Assumes nothing.
 use mathlib.Core.Path.{◌≡◌, sym}
-use Prim.Native.Nat.{ℕ, zero, suc, ◌≤◌, zero-le}
+use Prim.Native.Nat.{ℕ, ◌≤◌}
 use native.Mathlib.Omega.{arith}
 use lib.ListN.{length, get_or-eq_default}
 use Rattle.scales.specs.declared.scale.Scale.TheVariants.{Tt}

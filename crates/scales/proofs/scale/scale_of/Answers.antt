@@ -1,5 +1,4 @@
 -- `scales::scale::scale_of` meets its contract. Assumes nothing.
-use borrow.Author.Rules.{rules}
 use mathlib.Core.Path.{sym, ◌∙◌, ap}
 use Rattle.scales.specs.declared.scale.Named.TheVariants as N
 use Rattle.scales.proofs.scale.scale_of.Goals as goal

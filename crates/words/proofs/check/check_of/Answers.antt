@@ -1,8 +1,6 @@
 use Prim.Native.Nat.{ℕ, ◌+◌, ◌*◌, ◌-◌, ◌/◌, ◌%◌, ◌≤◌, ◌<◌, zero-le}
 use Rattle.words.proofs.Sums.{two_words, sum_a_two, sum_b_two}
 use Rattle.words.specs.Check.{sum_a, sum_b}
-use Rattle.words.specs.Words.{from}
-use borrow.Author.Rules.{rules}
 use mathlib.Core.Path.{◌≡◌, refl, ◌∙◌, ap}
 use native.Mathlib.Nat.{mul-le-mul}
 use native.Mathlib.Omega.{arith}

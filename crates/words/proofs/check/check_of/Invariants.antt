@@ -1,13 +1,9 @@
 -- `words::check::check_of` meets its contract. After i turns the sums are those of 2·i words, the
 -- weighted one with the second words once more, and small. Assumes nothing.
-use Prim.Native.Nat.{ℕ, ◌+◌, ◌*◌, ◌-◌, ◌/◌, ◌%◌, ◌≤◌, ◌<◌, zero-le}
-use Rattle.words.proofs.Sums.{two_words, sum_a_two, sum_b_two}
+use Prim.Native.Nat.{◌+◌, ◌*◌, ◌-◌, ◌≤◌}
 use Rattle.words.specs.Check.{sum_a, sum_b}
 use Rattle.words.specs.Words.{from}
-use borrow.Author.Rules.{rules}
-use mathlib.Core.Path.{◌≡◌, refl, ◌∙◌, ap}
-use native.Mathlib.Nat.{mul-le-mul}
-use native.Mathlib.Omega.{arith}
+use mathlib.Core.Path.{◌≡◌}
 use Rattle.words.proofs.check.check_of.Given as goal
 
 abbrev pub invariant-loop-i : goal.invariant-loop-i

@@ -1,15 +1,10 @@
 -- `words::check::lowest_unchecked` meets its contract. Every block passed has its check right.
 -- Assumes nothing.
-use Prim.Native.Nat.{ℕ, ◌-◌, ◌≤◌, ◌<◌, zero-le}
-use Rattle.numbers.proofs.Places.{first_is}
+use Prim.Native.Nat.{ℕ, ◌-◌, ◌≤◌, ◌<◌}
 use Rattle.words.specs.Check.{is_checked}
 use Rattle.words.specs.Words.{block}
-use borrow.Author.Count.{below_none, below_more}
-use borrow.Author.Rules.{rules}
-use borrow.Author.Tests.{not-true, not-false}
 use mathlib.Core.Bool.{true}
-use mathlib.Core.Path.{◌≡◌, sym, ◌∙◌}
-use native.Mathlib.Omega.{arith}
+use mathlib.Core.Path.{◌≡◌}
 use Rattle.words.proofs.check.lowest_unchecked.Given as goal
 
 abbrev pub invariant-loop-k : goal.invariant-loop-k

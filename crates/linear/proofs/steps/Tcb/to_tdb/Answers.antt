@@ -1,6 +1,5 @@
 -- `linear::steps::Tcb::to_tdb` meets its contract: TDB is TCB less what it loses, and less 65,500.
 -- The constants of the code are what the law asks by computation. Assumes nothing.
-use borrow.Author.Rules.{rules}
 use mathlib.Core.Path.{◌≡◌, refl, ◌∙◌}
 use native.Mathlib.Omega.{arith}
 use lib.Dec.{lit≤}

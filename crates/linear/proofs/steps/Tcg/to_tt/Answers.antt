@@ -1,6 +1,5 @@
 -- `linear::steps::Tcg::to_tt` meets its contract: TT is TCG less what it loses. The constants of
 -- the code are what the law asks by computation. Assumes nothing.
-use borrow.Author.Rules.{rules}
 use mathlib.Core.Path.{◌≡◌, refl, ◌∙◌}
 use native.Mathlib.Omega.{arith}
 use lib.Dec.{lit≤}

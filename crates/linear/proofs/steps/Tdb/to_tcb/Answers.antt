@@ -1,6 +1,5 @@
 -- `linear::steps::Tdb::to_tcb` meets its contract: TCB is TDB and what it gains, over 65,500 more.
 -- The constants of the code are what the law asks by computation. Assumes nothing.
-use borrow.Author.Rules.{rules}
 use mathlib.Core.Path.{◌≡◌, refl, ◌∙◌}
 use native.Mathlib.Omega.{arith}
 use lib.Dec.{lit≤}

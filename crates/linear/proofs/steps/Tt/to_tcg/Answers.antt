@@ -1,6 +1,5 @@
 -- `linear::steps::Tt::to_tcg` meets its contract: TCG is TT and what it gains. The constants of the
 -- code are what the law asks by computation. Assumes nothing.
-use borrow.Author.Rules.{rules}
 use mathlib.Core.Path.{◌≡◌, refl, ◌∙◌}
 use native.Mathlib.Omega.{arith}
 use lib.Dec.{lit≤}
