@@ -1,5 +1,7 @@
 // The line program: '`tickline` reads lines of standard input'. 'The table is the file
 // `table.blk`', read once and judged once.
+#![tactic(auto)]
+
 ghost use Rattle.std.specs.Prelude.{◌≡◌, length};
 
 use files::table::table_bytes;
@@ -34,10 +36,10 @@ fn out_buffer() -> [u8; OUT]
     [0; OUT]
 }
 
-fn main() {
+fn main(rt: HostRuntime) {
     let mut bytes = table_buffer();
-    let size = table_bytes(&mut bytes);
+    let size = table_bytes(&rt, &mut bytes);
     let mut text = text_buffer();
     let mut out = out_buffer();
-    run_over(&bytes[..size], &mut text, &mut out);
+    run_over(&rt, &bytes[..size], &mut text, &mut out);
 }

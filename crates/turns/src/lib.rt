@@ -1,6 +1,8 @@
 // The run of the line program: turn by turn it reads what has come, prints the lines for it, and
 // keeps the start of a line that is unfinished. What is printed for what is read is decided in the
 // library `lines`; the system is asked in the library `files` alone.
+#![tactic(auto)]
+
 ghost use Rattle.turns.specs.Buffers.{Waiting, Left, Buffered, Large};
 
 use blocks::answer::Judged;
@@ -21,6 +23,7 @@ enum Outcome {
 // One turn: reads what has come, prints the lines for the whole lines, keeps the start of an
 // unfinished one. `kept` bytes of it are at the front of `text`, and `line` is its number.
 fn turn(
+    rt: &(impl Input + Print + Eprint),
     text: &mut [u8],
     kept: usize,
     line: u64,
@@ -31,13 +34,13 @@ fn turn(
     requires { Waiting text.old kept line judged coefficients.now out.old }
     ensures { Left kept line text.new result }
 {
-    let more = read_input(&mut text[kept..]);
+    let more = read_input(rt, &mut text[kept..]);
     if more == 0 {
         return Outcome::Ended;
     }
     let places = feed(text, kept + more, line, judged, coefficients, out);
     let end = places.out;
-    if print(&out[..end]) == end {
+    if print(rt, &out[..end]) == end {
         return Outcome::Kept(places.text, places.line);
     }
     Outcome::Closed
@@ -45,21 +48,27 @@ fn turn(
 
 // Turn by turn until the input ends; then the last line, if its newline is missing. The lines are
 // counted from 1, over all turns. The turns are counted down from a number that no run uses up.
-fn run(text: &mut [u8], judged: Judged, coefficients: &[i64], out: &mut [u8])
+fn run(
+    rt: &(impl Input + Print + Eprint),
+    text: &mut [u8],
+    judged: Judged,
+    coefficients: &[i64],
+    out: &mut [u8],
+)
     requires { Buffered text.old judged coefficients.now out.old }
 {
     let mut kept = 0;
     let mut line = 1;
     let mut turns = u64::MAX;
     while turns > 0 {
-        match turn(text, kept, line, judged, coefficients, out) {
+        match turn(rt, text, kept, line, judged, coefficients, out) {
             Outcome::Kept(size, number) => {
                 kept = size;
                 line = number;
             }
             Outcome::Ended => {
                 let end = answer_last(&text[..kept], line, judged, coefficients, out);
-                print(&out[..end]);
+                print(rt, &out[..end]);
                 return;
             }
             Outcome::Closed => {
@@ -71,7 +80,7 @@ fn run(text: &mut [u8], judged: Judged, coefficients: &[i64], out: &mut [u8])
 }
 
 // Over the table that the bytes hold, judged once.
-pub fn run_over(bytes: &[u8], text: &mut [u8], out: &mut [u8])
+pub fn run_over(rt: &(impl Input + Print + Eprint), bytes: &[u8], text: &mut [u8], out: &mut [u8])
     requires { Large text.old out.old }
 {
     let judged = judge(bytes);
@@ -79,8 +88,8 @@ pub fn run_over(bytes: &[u8], text: &mut [u8], out: &mut [u8])
         Judged::Accepted(table) => {
             let coefficients = taken(bytes, table);
             let many = how_many(table);
-            run(text, judged, &coefficients[..many], out);
+            run(rt, text, judged, &coefficients[..many], out);
         }
-        Judged::Refused(_) => run(text, judged, &[], out),
+        Judged::Refused(_) => run(rt, text, judged, &[], out),
     }
 }
