@@ -8,12 +8,10 @@ use native.Mathlib.Omega.{arith}
 use lib.IntN.{ℤ, pos}
 use lib.ListN.{length, get_or}
 use Rattle.scales.specs.declared.answer.Answer.{Answer}
-use Rattle.scales.specs.declared.answer.Answer.TheVariants as Answer
 use Rattle.scales.specs.declared.answer.Epoch.{Epoch}
 use Rattle.scales.specs.declared.refusal.Refusal.{Refusal}
 use Rattle.entries.specs.declared.batched.Batched.{Batched}
 use Rattle.entries.specs.declared.batched.Batched.TheVariants.{Converted, Refused}
-use Rattle.desk.specs.Order.{refuses}
 use Rattle.entries.specs.Entries.{earlier, tried_of}
 use Rattle.walk.proofs.Steps.{Answered}
 use Rattle.walk.proofs.Steps.{Answered}

@@ -2,7 +2,6 @@
 -- index'.
 use Rattle.std.specs.Prelude.{List, [], ◌∷◌, ℕ, suc, ℤ}
 use Rattle.scales.specs.declared.answer.Answer.{Answer}
-use Rattle.scales.specs.declared.answer.Answer.TheVariants as Answer
 use Rattle.scales.specs.declared.scale.Scale.{Scale}
 use Rattle.scales.specs.Path.{steps}
 use Rattle.dates.specs.Readings.{in_range}

@@ -2,7 +2,6 @@
 use Rattle.std.specs.Prelude.{Bool, true, false, cond, List, [], ◌∷◌, ℤ}
 use Rattle.std.specs.Int.Signed.{lt_z}
 use Rattle.scales.specs.declared.answer.Answer.{Answer}
-use Rattle.scales.specs.declared.answer.Answer.TheVariants as Answer
 use Rattle.entries.specs.declared.trying.Ends.{Ends}
 
 -- of two ticks the earlier, and the later

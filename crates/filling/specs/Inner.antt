@@ -10,7 +10,6 @@ use Rattle.walk.specs.declared.kept.Kept.{Kept}
 use Rattle.walk.specs.Inner.{Held}
 use Rattle.walk.specs.Walk.{to_tdb, to_tt}
 use Rattle.entries.specs.declared.batched.Batched.{Batched}
-use Rattle.entries.specs.declared.batched.Batched.TheVariants as Batched
 use Rattle.entries.specs.Batched.{batched_left}
 use Rattle.entries.specs.Entries.{all_tried, entry_of}
 

@@ -1,6 +1,5 @@
 -- `filling::batch_over` meets its contract: it tries all before it writes any. Assumes nothing.
 use mathlib.Core.Path.{sym, ◌∙◌}
-use borrow.Author.Rules.{rules}
 use Rattle.filling.proofs.Filling.{filled_not, filled_all}
 use Rattle.filling.proofs.batch_over.Goals as goal
 

@@ -1,8 +1,7 @@
 use mathlib.Core.Path.{sym, ◌∙◌}
-use Prim.Native.Nat.{◌-◌, ◌≤◌, zero-le}
+use Prim.Native.Nat.{zero-le}
 use borrow.Author.Rules.{rules}
-use Rattle.scales.specs.Path.{longest_path}
-use Rattle.filling.proofs.Writing.{Walked, walked_none, walked_more, walked_here, walked_all}
+use Rattle.filling.proofs.Writing.{walked_none, walked_more, walked_here, walked_all}
 use Rattle.filling.proofs.write_all.Goals as goal
 
 pub copy_all-requires : goal.copy_all-requires

@@ -1,11 +1,9 @@
 -- `filling::write_all` meets its contract: what is left of each entry's walk, from where
 -- the list stands, is that entry's conversion. The measure is what is left of the longest path.
 -- Assumes nothing.
-use mathlib.Core.Path.{sym, ◌∙◌}
-use Prim.Native.Nat.{◌-◌, ◌≤◌, zero-le}
-use borrow.Author.Rules.{rules}
+use Prim.Native.Nat.{◌-◌, ◌≤◌}
 use Rattle.scales.specs.Path.{longest_path}
-use Rattle.filling.proofs.Writing.{Walked, walked_none, walked_more, walked_here, walked_all}
+use Rattle.filling.proofs.Writing.{Walked}
 use Rattle.filling.proofs.write_all.Given as goal
 
 abbrev pub invariant-loop-done : goal.invariant-loop-done

@@ -1,14 +1,9 @@
 -- `entries::trying::ends_of` meets its contract: the ends of what is left are the ends of all. The
 -- measure is how many are left. Assumes nothing.
-use mathlib.Core.Path.{◌≡◌, refl, sym, ◌∙◌}
-use Prim.Native.Nat.{◌-◌, ◌≤◌, zero-le}
-use borrow.Author.Rules.{rules}
+use mathlib.Core.Path.{◌≡◌}
+use Prim.Native.Nat.{◌-◌, ◌≤◌}
 use lib.ListN.{length, drop}
-use mir.Syntax.{w64}
-use mir.Val.{to_z}
-use mir.ValLaws.{to_z-of_z}
 use Rattle.entries.specs.Inner.{ends_of}
-use Rattle.entries.proofs.Loops.{wider, no_wider}
 use Rattle.entries.proofs.trying.ends_of.Given as goal
 
 abbrev pub invariant-loop-at : goal.invariant-loop-at

@@ -1,13 +1,12 @@
 use mathlib.Core.Path.{◌≡◌, refl, sym, ◌∙◌, ap}
-use Prim.Native.Nat.{◌-◌, ◌≤◌, zero-le}
+use Prim.Native.Nat.{zero-le}
 use borrow.Author.Rules.{rules}
 use lib.IntN.{pos}
-use lib.ListN.{length, get_or, drop}
+use lib.ListN.{get_or}
 use mir.Syntax.{w64}
 use mir.ValLaws.{to_z-of_z}
-use Rattle.scales.specs.Path.{steps}
 use Rattle.entries.specs.declared.batched.Batched.TheVariants.{Converted}
-use Rattle.entries.specs.Entries.{tried_of, all_tried, entry_of}
+use Rattle.entries.specs.Entries.{entry_of}
 use Rattle.entries.proofs.Loops.{accepted_goes_on, refused_stops, none_left, entry_read}
 use Rattle.entries.proofs.trying.tried_each.Goals as goal
 use Rattle.entries.proofs.trying.tried_each.Goals.{After-between, Start}
@@ -24,7 +23,7 @@ module _ (c : After-between) where
       start.args.coefficients.now
       (get_or start.args.ticks.now c.loop-index.index (pos 0))
   entry_is =
-      rw (c.ranged.ensures, to_z-of_z w64 _ (record { sfits = c.tick-1.given })) at c.between.ensures ∙ entry_read _ _ _ _ _
+      rw (c.ranged.ensures, to_z-of_z w64 (get_or start.args.ticks.now c.loop-index.index (pos 0)) (record { sfits = search rules })) at c.between.ensures ∙ entry_read _ _ _ _ _
 
 pub returns-in-Refused : goal.returns-in-Refused
 returns-in-Refused c = sym (c.loop-index.invariant.1 ∙ refused_stops _ _ _ _ _ c.loop-index-test.true (sym (entry_is (goal.at.returns-in-Refused c).After-between) ∙ c.in-Refused.is))

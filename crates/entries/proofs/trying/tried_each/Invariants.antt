@@ -1,16 +1,10 @@
 -- `entries::trying::tried_each` meets its contract: what trying all says is what trying those that
 -- are left says. The measure is how many are left. Assumes nothing.
-use mathlib.Core.Path.{◌≡◌, refl, sym, ◌∙◌, ap}
-use Prim.Native.Nat.{◌-◌, ◌≤◌, zero-le}
-use borrow.Author.Rules.{rules}
-use lib.IntN.{pos}
-use lib.ListN.{length, get_or, drop}
-use mir.Syntax.{w64}
-use mir.ValLaws.{to_z-of_z}
+use mathlib.Core.Path.{◌≡◌}
+use Prim.Native.Nat.{◌-◌, ◌≤◌}
+use lib.ListN.{length, drop}
 use Rattle.scales.specs.Path.{steps}
-use Rattle.entries.specs.declared.batched.Batched.TheVariants.{Converted}
 use Rattle.entries.specs.Entries.{tried_of, all_tried, entry_of}
-use Rattle.entries.proofs.Loops.{accepted_goes_on, refused_stops, none_left, entry_read}
 use Rattle.entries.proofs.trying.tried_each.Given as goal
 
 abbrev pub invariant-loop-index : goal.invariant-loop-index

@@ -1,10 +1,10 @@
-use mathlib.Core.Path.{◌≡◌, refl, ◌∙◌}
-use Prim.Native.Nat.{ℕ, ◌-◌, ◌≤◌, ◌<◌, zero-le}
+use mathlib.Core.Path.{refl, ◌∙◌}
+use Prim.Native.Nat.{zero-le}
 use native.Mathlib.Omega.{arith}
 use borrow.Author.Count.{below_none}
 use borrow.Author.Rules.{rules}
 use lib.IntN.{pos}
-use lib.ListN.{length, get_or, length-set}
+use lib.ListN.{get_or, length-set}
 use lib.Seq.{ext_get_or}
 use mir.Syntax.{w64}
 use mir.ValLaws.{to_z-of_z}
@@ -23,7 +23,7 @@ loop-i-preserved c =
       search rules,
       simp length-set l.invariant.1,
       written_more l.answers l.i _ (pos 0) (λ j. get_or c.args.ticks.now j (pos 0)) (bounds-answers-i c) l.invariant.2
-          (to_z-of_z w64 _ (record { sfits = c.tick-1.given })),
+          (to_z-of_z w64 (get_or c.args.ticks.now l.i (pos 0)) (record { sfits = search rules })),
     )
 
 pub shape_of-answers : goal.shape_of-answers

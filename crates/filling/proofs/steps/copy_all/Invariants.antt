@@ -1,16 +1,9 @@
 -- `filling::steps::copy_all` meets its contract: each place written so far holds its tick. The
 -- measure is how many are left. Assumes nothing.
-use mathlib.Core.Path.{◌≡◌, refl, ◌∙◌}
-use Prim.Native.Nat.{ℕ, ◌-◌, ◌≤◌, ◌<◌, zero-le}
-use native.Mathlib.Omega.{arith}
-use borrow.Author.Count.{below_none}
-use borrow.Author.Rules.{rules}
+use mathlib.Core.Path.{◌≡◌}
+use Prim.Native.Nat.{ℕ, ◌-◌, ◌≤◌, ◌<◌}
 use lib.IntN.{pos}
-use lib.ListN.{length, get_or, length-set}
-use lib.Seq.{ext_get_or}
-use mir.Syntax.{w64}
-use mir.ValLaws.{to_z-of_z}
-use Rattle.numbers.proofs.Places.{written_more}
+use lib.ListN.{length, get_or}
 use Rattle.filling.proofs.steps.copy_all.Given as goal
 
 abbrev pub invariant-loop-i : goal.invariant-loop-i

@@ -1,13 +1,10 @@
 use mathlib.Core.Path.{◌∙◌}
-use Prim.Native.Nat.{◌-◌, ◌≤◌, zero-le}
+use Prim.Native.Nat.{zero-le}
 use borrow.Author.Rules.{rules}
-use lib.IntN.{ℤ, pos}
-use lib.ListN.{length, length-set}
+use lib.IntN.{pos}
+use lib.ListN.{length-set, get_or}
 use Rattle.numbers.proofs.Machine.{read_is}
-use Rattle.numbers.proofs.Places.{Mapped, mapped_none, mapped_more, mapped_all}
-use Rattle.scales.specs.Rows.{line_step}
-use Rattle.scales.specs.Answers.{stepped_tick}
-use Rattle.filling.specs.Inner.{row_by}
+use Rattle.numbers.proofs.Places.{mapped_none, mapped_more, mapped_all}
 use Rattle.filling.proofs.steps.line_all.Goals as goal
 
 pub loop-index-init : goal.loop-index-init
@@ -25,7 +22,7 @@ loop-index-preserved c =
       simp length-set (search rules),
       mapped_more _ _ _ _ (bounds-answers-index c) l.invariant.1
           (read_is _ (record { sfits = c.by_line-next.type_inv })
-          ∙ (rw (read_is _ (record { sfits = c.tick-1.given })) at c.by_line-next.ensures)),
+          ∙ (rw (read_is (get_or l.answers l.index (pos 0)) (record { sfits = search rules })) at c.by_line-next.ensures)),
     )
 
 pub shape_of-answers : goal.shape_of-answers

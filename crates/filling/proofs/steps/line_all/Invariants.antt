@@ -1,12 +1,9 @@
 -- `filling::steps::line_all` meets its contract: each place written so far holds where the step
 -- came to, the others hold what they held. The measure is how many are left. Assumes nothing.
-use mathlib.Core.Path.{◌∙◌}
-use Prim.Native.Nat.{◌-◌, ◌≤◌, zero-le}
-use borrow.Author.Rules.{rules}
+use Prim.Native.Nat.{◌-◌, ◌≤◌}
 use lib.IntN.{ℤ, pos}
-use lib.ListN.{length, length-set}
-use Rattle.numbers.proofs.Machine.{read_is}
-use Rattle.numbers.proofs.Places.{Mapped, mapped_none, mapped_more, mapped_all}
+use lib.ListN.{length}
+use Rattle.numbers.proofs.Places.{Mapped}
 use Rattle.scales.specs.Rows.{line_step}
 use Rattle.scales.specs.Answers.{stepped_tick}
 use Rattle.filling.specs.Inner.{row_by}

@@ -1,5 +1,4 @@
 -- `filling::steps::step_all` meets its contract: each step is that of its row. Assumes nothing.
-use borrow.Author.Rules.{rules}
 use Rattle.filling.proofs.steps.step_all.Goals as goal
 
 pub returns-in-Linear : goal.returns-in-Linear

@@ -1,12 +1,10 @@
 use mathlib.Core.Path.{◌∙◌}
-use Prim.Native.Nat.{◌-◌, ◌≤◌, zero-le}
+use Prim.Native.Nat.{zero-le}
 use borrow.Author.Rules.{rules}
-use lib.IntN.{ℤ, pos}
-use lib.ListN.{length, length-set}
+use lib.IntN.{pos}
+use lib.ListN.{length-set, get_or}
 use Rattle.numbers.proofs.Machine.{read_is}
-use Rattle.numbers.proofs.Places.{Mapped, mapped_none, mapped_more, mapped_all}
-use Rattle.filling.specs.Inner.{table_by}
-use Rattle.scales.specs.Answers.{stepped_tick}
+use Rattle.numbers.proofs.Places.{mapped_none, mapped_more, mapped_all}
 use Rattle.filling.proofs.steps.table_all.Goals as goal
 
 pub loop-at-init : goal.loop-at-init
@@ -24,7 +22,7 @@ loop-at-preserved c =
       simp length-set (search rules),
       mapped_more _ _ _ _ (bounds-answers-at c) l.invariant.1
           (read_is _ (record { sfits = c.by_table-next.type_inv })
-          ∙ (rw (read_is _ (record { sfits = c.tick-1.given })) at c.by_table-next.ensures)),
+          ∙ (rw (read_is (get_or l.answers l.at (pos 0)) (record { sfits = search rules })) at c.by_table-next.ensures)),
     )
 
 pub shape_of-answers : goal.shape_of-answers

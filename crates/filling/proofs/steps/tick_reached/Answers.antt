@@ -7,7 +7,7 @@ use Rattle.filling.proofs.steps.tick_reached.Goals as goal
 
 pub returns-in-Reached : goal.returns-in-Reached
 unfolding stepped_tick
-returns-in-Reached c = rw (c.in-Reached.is, to_z-of_z w64 _ (record { sfits = c.struct_told-1.given.1.0.1 }))
+returns-in-Reached c = rw (c.in-Reached.is, to_z-of_z w64 c.in-Reached.epoch.tick (record { sfits = search rules }))
 
 pub returns-in-OutsideTable : goal.returns-in-OutsideTable
 unfolding stepped_tick
