@@ -3,9 +3,11 @@
 // `requires`. `include/colliedash.h` declares the same.
 #![tactic(auto)]
 
-pub mod answers;
+mod answers;
 pub mod changes;
 pub mod conversions;
 pub mod date;
 pub mod leaps;
 pub mod tables;
+
+pub use crate::answers::{Answer, TableAnswer};

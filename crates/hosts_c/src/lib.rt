@@ -16,10 +16,10 @@ ghost use Rattle.hosts.specs.Tables.{TableRead, TableWritten};
 ghost use Rattle.hosts.specs.Utc.{utc_answer};
 ghost use Rattle.written.specs.Written.{write_utc_of};
 
-use hosts::answers::{Answer, TableAnswer};
 use hosts::changes::ChangesAnswer;
 use hosts::date::DateAnswer;
 use hosts::leaps::UtcAnswer;
+use hosts::{Answer, TableAnswer};
 
 // Ticks past Julian date 2443144.5003725 in the scale of the first code, to ticks in that of the
 // second.
