@@ -13,7 +13,7 @@ use Rattle.numbers.specs.Lowest.{lowest}
 use Rattle.numbers.specs.Tests.{Test, test, single}
 use Rattle.numbers.proofs.Flags.{both}
 use Rattle.numbers.proofs.Places.{all_pass}
-use Rattle.numbers.proofs.Verdicts.{stops, goes, stop, go, one_stop, one_go}
+use Rattle.numbers.proofs.Verdicts.{stops, goes, stop, go, one_stop}
 use Rattle.words.specs.Words.{block, most_blocks}
 use Rattle.words.specs.Check.{is_checked}
 use Rattle.form.specs.Form.{blocks_of, is_free, fixed_byte, is_formed}

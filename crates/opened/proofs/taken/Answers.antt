@@ -1,6 +1,5 @@
 -- `opened::taken` meets its contract: the coefficients are taken into the front of the room.
 -- Assumes nothing.
-use borrow.Author.Rules.{rules}
 use mathlib.Core.Path.{sym, ◌∙◌, ap, ap₂}
 use Prim.Native.Nat.{◌≤◌}
 use native.Mathlib.Omega.{arith}

@@ -4,9 +4,9 @@ use Prim.Native.Nat.{ℕ, ◌*◌, ◌≤◌, zero-le}
 use Rattle.granules.specs.Answers.{tested_stored}
 use Rattle.image.proofs.Bounding.{bounds_told}
 use Rattle.blocks.proofs.Telling.{tested_is}
-use Rattle.blocks.proofs.Past.{whole_told, from14, from12, from13, from_first, refused10, past10, refused11, past11, refused12_first}
+use Rattle.blocks.proofs.Past.{whole_told, from14, from12, from13, from_first, refused10, past10, refused11, past11}
 use Rattle.blocks.proofs.Past.{past_first, refused13_bound, refused13_blocks, past13, refused12, past12, formed12, search_for}
-use Rattle.numbers.proofs.Verdicts.{one_stop, one_go}
+use Rattle.numbers.proofs.Verdicts.{one_go}
 use Rattle.image.specs.Bounds.{is_bounded}
 use Rattle.blocks.specs.Answers.{judged_tested}
 use Rattle.blocks.specs.Judging.{judged_by, is_whole, table_tests, judged}
@@ -15,8 +15,6 @@ use Rattle.image.specs.Image.{table_of}
 use Rattle.words.specs.Words.{block}
 use Rattle.image.specs.declared.table.Table.{Table}
 use borrow.Author.Count.{below_none}
-use borrow.Author.Rules.{rules}
-use borrow.Author.Tests.{not-true, not-false}
 use lib.ListN.{length}
 use mathlib.Core.Bool.{true}
 use mathlib.Core.List.{List}

@@ -5,10 +5,6 @@ use Rattle.blocks.proofs.Taking.{read_table_refused, read_unfit, read_done}
 use Rattle.blocks.specs.Judging.{judged}
 use Rattle.blocks.specs.declared.answer.Judged.TheVariants.{Accepted}
 use Rattle.image.proofs.Slots.{room}
-use Rattle.image.specs.declared.table.Table.{Table}
-use Prim.Native.Nat.{ℕ}
-use borrow.Author.Rules.{rules}
-use mathlib.Core.List.{List}
 use mathlib.Core.Path.{◌≡◌, sym, ◌∙◌}
 use native.Mathlib.Omega.{arith}
 use Rattle.blocks.proofs.reading.read.Goals as goal

@@ -1,6 +1,5 @@
 -- `blocks::told::tested` meets its contract. Assumes nothing.
 use Rattle.blocks.specs.Answers.{judged_tested}
-use borrow.Author.Rules.{rules}
 use mathlib.Core.Path.{sym, ap}
 use Rattle.blocks.proofs.told.tested.Goals as goal
 

@@ -4,9 +4,6 @@ use Rattle.blocks.proofs.Putting.{product, wrote_refused, unfit_list, unfit_buff
 use Rattle.image.specs.Bounds.{is_bounded}
 use Rattle.blocks.specs.Judging.{table_from}
 use Rattle.image.specs.declared.table.Table.{Table}
-use borrow.Author.Rules.{rules}
-use borrow.Author.Tests.{not-true, not-false}
-use lib.ListN.{length}
 use mathlib.Core.Bool.{true}
 use mathlib.Core.Path.{◌≡◌, sym, ◌∙◌}
 use mir.Syntax.{w64}

@@ -1,6 +1,5 @@
 -- `ephemeris::earliest::covered` meets its contract: what the place of the earliest tick says
 -- already need not be looked at. Assumes nothing.
-use borrow.Author.Rules.{rules}
 use mathlib.Core.Path.{sym, ◌∙◌}
 use native.Mathlib.Omega.{arith}
 use Rattle.numbers.proofs.Machine.{not_lt}

@@ -1,14 +1,13 @@
-use borrow.Author.Rules.{rules}
 use mathlib.Core.Path.{◌≡◌, sym, ◌∙◌}
-use Prim.Native.Nat.{◌+◌, ◌-◌, ◌≤◌, zero-le}
+use Prim.Native.Nat.{◌-◌, zero-le}
 use native.Mathlib.Numerals.{add-one}
 use native.Mathlib.Omega.{arith}
-use lib.IntN.{ℤ, ◌+ℤ◌, ◌-ℤ◌}
+use lib.IntN.{◌+ℤ◌, ◌-ℤ◌}
 use Rattle.numbers.proofs.Machine.{read, read_is}
 use Rattle.ephemeris.specs.Table.{S, last_place, table_delay}
 use Rattle.ephemeris.specs.Asked.{held_inside, FromHere}
 use Rattle.ephemeris.proofs.Granules.{delay_bounded}
-use Rattle.ephemeris.proofs.Closing.{NearEarliest, reach_after, near_first, near_next, near_fixed, near_last}
+use Rattle.ephemeris.proofs.Closing.{near_first, near_next, near_fixed, near_last}
 use Rattle.ephemeris.proofs.earliest.earliest_place.Goals as goal
 use Rattle.ephemeris.proofs.earliest.earliest_place.Goals.{After-delay_at-delay, After-loop-turns, After-pointed-next}
 

@@ -1,12 +1,5 @@
 -- `ephemeris::earliest::this_or_before` meets its contract. Assumes nothing.
-use borrow.Author.Rules.{rules}
-use mathlib.Core.Path.{◌≡◌, sym, ◌∙◌}
-use Prim.Native.Nat.{◌-◌}
 use native.Mathlib.Omega.{arith}
-use lib.Signed.{lt_z}
-use Rattle.numbers.proofs.Machine.{lt_yes, lt_no}
-use Rattle.ephemeris.specs.Table.{tdb_at}
-use Rattle.ephemeris.proofs.Search.{earliest_least, earliest_later}
 use Rattle.ephemeris.proofs.earliest.this_or_before.Goals as goal
 
 pub returns-then-place-eq0 : goal.returns-then-place-eq0

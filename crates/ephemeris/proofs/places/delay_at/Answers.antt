@@ -1,6 +1,5 @@
 -- `ephemeris::places::delay_at` meets its contract: the part of the list is granule g's
 -- coefficients, and the place in it is i − gH. Assumes nothing.
-use borrow.Author.Rules.{rules}
 use mathlib.Core.Path.{◌≡◌, ◌∙◌, ap}
 use mathlib.Core.List.{List}
 use Prim.Native.Nat.{ℕ, ◌+◌, ◌*◌, ◌-◌, ◌≤◌}

@@ -1,8 +1,7 @@
 -- `ephemeris::places::granule_of` meets its contract. Assumes nothing.
-use borrow.Author.Rules.{rules}
 use native.Mathlib.Omega.{arith}
 use Rattle.ephemeris.specs.Table.{granule_of}
-use Rattle.ephemeris.proofs.Bounds.{long, length_is, length_cast}
+use Rattle.ephemeris.proofs.Bounds.{length_is, length_cast}
 use Rattle.ephemeris.proofs.places.granule_of.Goals as goal
 
 pub overflow_cast-g : goal.overflow_cast-g

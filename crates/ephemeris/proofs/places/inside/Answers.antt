@@ -1,5 +1,4 @@
 -- `ephemeris::places::inside` meets its contract. Assumes nothing.
-use borrow.Author.Rules.{rules}
 use mathlib.Core.Path.{sym, ◌∙◌}
 use Rattle.numbers.proofs.Machine.{lt_yes}
 use Rattle.ephemeris.proofs.Ticks.{before_no, inside_is}

@@ -1,6 +1,5 @@
 -- `ephemeris::places::last_place` meets its contract: 360 granules of 2^50 ticks fit. Assumes
 -- nothing.
-use borrow.Author.Rules.{rules}
 use mathlib.Core.Path.{◌≡◌}
 use Prim.Native.Nat.{◌*◌}
 use native.Mathlib.Omega.{arith}

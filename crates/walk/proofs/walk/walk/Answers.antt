@@ -1,11 +1,10 @@
 use borrow.Author.Rules.{rules}
 use mathlib.Core.Path.{◌≡◌, refl, sym, ◌∙◌, ap}
-use Prim.Native.Nat.{◌-◌, ◌≤◌}
 use lib.IntN.{ℤ}
 use Rattle.numbers.proofs.Machine.{read_is}
 use Rattle.scales.specs.declared.answer.Answer.{Answer}
 use Rattle.scales.specs.declared.path.Way.TheVariants.{By}
-use Rattle.scales.specs.Path.{next, longest_path}
+use Rattle.scales.specs.Path.{next}
 use Rattle.walk.specs.Walk.{walk_between}
 use Rattle.walk.proofs.Walking.{walk_left, whole_left, no_walk_left, at_end, further, outside_table, outside_range}
 use Rattle.walk.proofs.walk.walk.Goals as goal

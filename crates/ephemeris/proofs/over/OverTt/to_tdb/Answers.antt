@@ -1,11 +1,10 @@
 -- `ephemeris::over::OverTt::to_tdb` meets its contract. Assumes nothing.
 use borrow.Author.Rules.{rules}
-use borrow.Author.Tests.{not-true, not-false}
 use mathlib.Core.Path.{◌≡◌, sym, ◌∙◌, ap}
 use mathlib.Core.Bool.{true, false}
 use mathlib.Core.List.{List}
 use lib.IntN.{ℤ}
-use Rattle.numbers.proofs.Machine.{read, read_is}
+use Rattle.numbers.proofs.Machine.{read_is}
 use Rattle.scales.specs.Answers.{kept_in}
 use Rattle.scales.specs.declared.answer.Stepped.TheVariants.{OutsideTable}
 use Rattle.scales.specs.declared.scale.Scale.TheVariants.{Tdb}
