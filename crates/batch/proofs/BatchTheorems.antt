@@ -12,7 +12,6 @@ use lib.ListN.{length, get_or}
 use Rattle.numbers.proofs.Flags.{both}
 use Rattle.numbers.proofs.Places.{map_at}
 use Rattle.scales.specs.declared.answer.Answer.{Answer}
-use Rattle.scales.specs.declared.answer.Answer.TheVariants as Answer
 use Rattle.scales.specs.declared.answer.Epoch.{Epoch}
 use Rattle.scales.specs.declared.refusal.Refusal.{Refusal}
 use Rattle.scales.specs.declared.scale.Purpose.TheVariants as P

@@ -7,7 +7,6 @@ use Rattle.blocks.specs.declared.answer.Judged.{Judged}
 use Rattle.blocks.specs.Judging.{judged}
 use Rattle.dates.specs.Readings.{in_range}
 use Rattle.entries.specs.declared.batched.Batched.{Batched}
-use Rattle.entries.specs.declared.batched.Batched.TheVariants as Batched
 use Rattle.walk.specs.declared.kept.Kept.TheVariants as K
 use Rattle.filling.specs.Inner.{Filled, FilledOver}
 use Rattle.desk.specs.declared.asked.Asked.{Asked}

@@ -4,7 +4,6 @@ use borrow.Author.Tests.{eqb-true}
 use mathlib.Core.Bool.{true}
 use lib.Dec.{eqb}
 use lib.ListN.{length}
-use borrow.Author.Rules.{rules}
 use Rattle.scales.specs.declared.scale.Purpose.TheVariants as P
 use Rattle.desk.specs.declared.asked.Asked.TheVariants as A
 use Rattle.desk.specs.Inner.{asked_of}

@@ -1,6 +1,5 @@
 -- `batch::batch_crossing` meets its contract. Assumes nothing.
 use mathlib.Core.Path.{sym, ◌∙◌}
-use borrow.Author.Rules.{rules}
 use Rattle.batch.proofs.Batches.{filled_taken, filled_judged}
 use Rattle.batch.proofs.batch_crossing.Goals as goal
 

@@ -5,13 +5,9 @@ use mathlib.Core.Path.{sym}
 use lib.Seq.{length-take-le}
 use Rattle.walk.proofs.Holding.{table_held}
 use Rattle.batch.proofs.batch_taken.Goals as goal
-use Rattle.batch.proofs.batch_taken.Goals.{After-batch_over-arg-1}
-
-pub slice_bounds-coefficients-end : goal.slice_bounds-coefficients-end
-slice_bounds-coefficients-end c = search rules
 
 pub slice_bounds-batch_over-end : goal.slice_bounds-batch_over-end
-slice_bounds-batch_over-end c = sym (length-take-le _ _ (slice_bounds-coefficients-end (goal.at.slice_bounds-batch_over-end c).After-batch_over-arg-1))
+slice_bounds-batch_over-end c = sym (length-take-le _ _ (search rules))
 
 pub batch_over-requires : goal.batch_over-requires
 batch_over-requires c = rw (c.how_many-many.ensures, c.taken-coefficients.ensures.front) (record { held = table_held _ _ c.requires.opened.accepted; long = c.requires.long })
