@@ -40,10 +40,14 @@ pub batch_crossing-requires : goal.batch_crossing-requires
 batch_crossing-requires c = long2 (goal.at.batch_crossing-requires c).In-Crossing
 
 pub returns-in-Plain : goal.returns-in-Plain
-returns-in-Plain c = has_converted _ _ _ _ _ _ (plain (goal.at.returns-in-Plain c).In-Plain) (asked_alone _ _ _ _ (plain (goal.at.returns-in-Plain c).In-Plain) (plain_sound _ _)) c.batch_over.ensures
+returns-in-Plain c =
+    has_converted _ _ _ _ _ _ (plain (goal.at.returns-in-Plain c).In-Plain)
+    (asked_alone _ _ _ _ (plain (goal.at.returns-in-Plain c).In-Plain) (plain_sound _ _)) c.batch_over.ensures
 
 pub returns-in-Crossing : goal.returns-in-Crossing
-returns-in-Crossing c = has_converted _ _ _ _ _ _ (crossing (goal.at.returns-in-Crossing c).In-Crossing) (asked_alone _ _ _ _ (crossing (goal.at.returns-in-Crossing c).In-Crossing) (crossing_sound _ _)) c.batch_crossing.ensures
+returns-in-Crossing c =
+    has_converted _ _ _ _ _ _ (crossing (goal.at.returns-in-Crossing c).In-Crossing)
+    (asked_alone _ _ _ _ (crossing (goal.at.returns-in-Crossing c).In-Crossing) (crossing_sound _ _)) c.batch_crossing.ensures
 
 pub returns-in-Refused : goal.returns-in-Refused
 returns-in-Refused c = has_refused _ _ _ _ _ _ (sym c.asked_of.ensures ∙ c.in-Refused.is)

@@ -10,7 +10,9 @@ pub slice_bounds-batch_over-end : goal.slice_bounds-batch_over-end
 slice_bounds-batch_over-end c = sym (length-take-le _ _ (search rules))
 
 pub batch_over-requires : goal.batch_over-requires
-batch_over-requires c = rw (c.how_many-many.ensures, c.taken-coefficients.ensures.front) (record { held = table_held _ _ c.requires.opened.accepted; long = c.requires.long })
+batch_over-requires c =
+    rw (c.how_many-many.ensures, c.taken-coefficients.ensures.front)
+    (record { held = table_held _ _ c.requires.opened.accepted; long = c.requires.long })
 
 pub returns : goal.returns
 returns c = rw (c.how_many-many.ensures, c.taken-coefficients.ensures.front) at c.batch_over.ensures

@@ -15,7 +15,8 @@ pub loop-at-preserved : goal.loop-at-preserved
 loop-at-preserved c =
     let earliest = to_z-of_z w64 _ (record { sfits = c.sooner-earliest.type_inv })
     ∙ (rw (to_z-of_z w64 (get_or c.args.ticks.now c.loop-at.at (pos 0)) (record { sfits = search rules })) at c.sooner-earliest.ensures) in
-    let latest = to_z-of_z w64 _ (record { sfits = c.later-latest.type_inv }) ∙ (rw (to_z-of_z w64 (get_or c.args.ticks.now c.loop-at.at (pos 0)) (record { sfits = search rules })) at c.later-latest.ensures) in
+    let latest = to_z-of_z w64 _ (record { sfits = c.later-latest.type_inv })
+    ∙ (rw (to_z-of_z w64 (get_or c.args.ticks.now c.loop-at.at (pos 0)) (record { sfits = search rules })) at c.later-latest.ensures) in
     (search rules, rw (earliest, latest) (sym (wider _ _ _ _ c.loop-at-test.true) ∙ c.loop-at.invariant.1))
 
 pub returns : goal.returns

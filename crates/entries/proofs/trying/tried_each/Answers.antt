@@ -23,13 +23,20 @@ module _ (c : After-between) where
       start.args.coefficients.now
       (get_or start.args.ticks.now c.loop-index.index (pos 0))
   entry_is =
-      rw (c.ranged.ensures, to_z-of_z w64 (get_or start.args.ticks.now c.loop-index.index (pos 0)) (record { sfits = search rules })) at c.between.ensures ∙ entry_read _ _ _ _ _
+      rw (c.ranged.ensures, to_z-of_z w64 (get_or start.args.ticks.now c.loop-index.index (pos 0)) (record { sfits = search rules })) at c.between.ensures
+      ∙ entry_read _ _ _ _ _
 
 pub returns-in-Refused : goal.returns-in-Refused
-returns-in-Refused c = sym (c.loop-index.invariant.1 ∙ refused_stops _ _ _ _ _ c.loop-index-test.true (sym (entry_is (goal.at.returns-in-Refused c).After-between) ∙ c.in-Refused.is))
+returns-in-Refused c =
+    sym (c.loop-index.invariant.1
+    ∙ refused_stops _ _ _ _ _ c.loop-index-test.true (sym (entry_is (goal.at.returns-in-Refused c).After-between) ∙ c.in-Refused.is))
 
 pub loop-index-preserved : goal.loop-index-preserved
-loop-index-preserved c = (search rules, c.loop-index.invariant.1 ∙ accepted_goes_on _ _ _ _ _ _ c.loop-index-test.true (sym (entry_is (goal.at.loop-index-preserved c).After-between) ∙ c.in-Converted.is))
+loop-index-preserved c = (
+  search rules,
+  c.loop-index.invariant.1
+      ∙ accepted_goes_on _ _ _ _ _ _ c.loop-index-test.true (sym (entry_is (goal.at.loop-index-preserved c).After-between) ∙ c.in-Converted.is),
+)
 
 pub returns : goal.returns
 returns c = sym (c.loop-index.invariant.1 ∙ none_left _ _ _ _ c.loop-index-test.false ∙ ap Converted (sym c.steps_between.ensures))

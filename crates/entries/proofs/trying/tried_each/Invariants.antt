@@ -8,7 +8,10 @@ use Rattle.entries.specs.Entries.{tried_of, all_tried, entry_of}
 use Rattle.entries.proofs.trying.tried_each.Given as goal
 
 abbrev pub invariant-loop-index : goal.invariant-loop-index
-invariant-loop-index l = (l.index ≤ length l.ticks) × (all_tried l.from l.to l.ticks l.kept l.coefficients ≡ tried_of (entry_of l.from l.to l.kept l.coefficients) (steps l.from l.to) l.index (drop l.index l.ticks))
+invariant-loop-index l =
+    (l.index ≤ length l.ticks)
+    × (all_tried l.from l.to l.ticks l.kept l.coefficients
+    ≡ tried_of (entry_of l.from l.to l.kept l.coefficients) (steps l.from l.to) l.index (drop l.index l.ticks))
 
 abbrev pub decreases-loop-index : goal.decreases-loop-index
 decreases-loop-index l = length l.ticks - l.index

@@ -7,7 +7,9 @@ use lib.ListN.{length, get_or}
 use Rattle.filling.proofs.steps.copy_all.Given as goal
 
 abbrev pub invariant-loop-i : goal.invariant-loop-i
-invariant-loop-i l = (l.i ≤ length l.ticks) × (length l.answers ≡ length l.initial.answers) × ((j : ℕ) → j < l.i → get_or l.answers j (pos 0) ≡ get_or l.ticks j (pos 0))
+invariant-loop-i l =
+    (l.i ≤ length l.ticks) × (length l.answers ≡ length l.initial.answers)
+    × ((j : ℕ) → j < l.i → get_or l.answers j (pos 0) ≡ get_or l.ticks j (pos 0))
 
 abbrev pub decreases-loop-i : goal.decreases-loop-i
 decreases-loop-i l = length l.ticks - l.i
