@@ -2,8 +2,8 @@
 --
 -- Two granules. What the largest and the sum of their differences say, and that they differ exactly
 -- where the sum is above 0: `Sums`. That the sum bounds the gap of their exact sums: `Gap`
--- (sums-near). That they have equal exact sums at every tick exactly where they have equal
--- coefficients: `Independent` (same-meaning). Both go by the exact sum with zeros filled in:
+-- (sums_near). That they have equal exact sums at every tick exactly where they have equal
+-- coefficients: `Independent` (same_meaning). Both go by the exact sum with zeros filled in:
 -- `Series`.
 --
 -- The list. As it is made and put, and what stands where in it: `Entries`. That it is rising and

@@ -1,7 +1,7 @@
 -- The laws of a batch's entries: which one to cite when.
 --
--- What trying a list tells: `TriedLists` (tried-accepted, tried-refused). That accepted ticks form
--- an interval: `Interval` (entry-within). For the code's loops: `Loops`.
+-- What trying a list tells: `TriedLists` (tried_accepted, tried_refused). That accepted ticks form
+-- an interval: `Interval` (entry_within). For the code's loops: `Loops`.
 pub mod TriedLists
 pub mod Loops
 pub mod Interval

@@ -1,7 +1,7 @@
 -- The laws of whole numbers: which one to reach for when.
 --
 -- A fact that is linear in its integers (sums, differences, multiples by a literal, ≤ℤ, <ℤ, ≡,
--- natAbs x ≤ n): no law. State it over all integers and let `Differences` carry it to `omega`:
+-- nat_abs x ≤ n): no law. State it over all integers and let `Differences` carry it to `omega`:
 --
 --     rep₂ _ (λ a b c d. simp lin (omega arith))
 --
@@ -10,12 +10,12 @@
 --
 -- An identity of polynomials: `Solver`, one line:
 --
---     all₃ _ (λ ρ. simp (quote, q-con ρ) (ring ρ _ _ tt))
+--     all₃ _ (λ ρ. simp (quote, q_con ρ) (ring ρ _ _ tt))
 --
 -- One rewriting by associativity or distributivity: `Ring`.
 --
 -- Transitivity, a product's or a sum's order or size: `Order` (≤-trans, ≤-antisym, ≤-total, *-mono,
--- and le-or-lt over ℕ; size-+ and size-* for |x + y| and |x·y| by the sizes of x and y; sq→abs and
+-- and le_or_lt over ℕ; size-+ and size-* for |x + y| and |x·y| by the sizes of x and y; sq→abs and
 -- abs→sq between x² ≤ m² and |x| ≤ m).
 --
 -- A rounding: `Rounding`. A number is the floor of x / d, or the nearest to z / d, as soon as it
@@ -37,8 +37,8 @@
 -- `Verdicts`. That code which asks one test after the other returns the rank of the first that
 -- fails: `Ranks`, by `search ranks`.
 --
--- The Chebyshev polynomials of the granule rule: `Chebyshev` for their recurrence, size (E-bound),
--- ends (E-start, E-end) and other denominators (E-scale), `Slope` for how far E_k moves when p
+-- The Chebyshev polynomials of the granule rule: `Chebyshev` for their recurrence, size (E_bound),
+-- ends (E_start, E_end) and other denominators (E_scale), `Slope` for how far E_k moves when p
 -- does; `Degrees` for the repeated differences of a function of the place, in which E_k has degree
 -- k.
 pub mod Differences

@@ -2,7 +2,7 @@
 -- identity is proved in one line:
 --
 --     square : (x y : ℤ) → (x +ℤ y) *ℤ (x +ℤ y) ≡ x *ℤ x +ℤ pos 2 *ℤ (x *ℤ y) +ℤ y *ℤ y
---     square = all₂ _ (λ ρ. simp (quote, q-con ρ) (ring ρ _ _ tt))
+--     square = all₂ _ (λ ρ. simp (quote, q_con ρ) (ring ρ _ _ tt))
 --
 -- (`q_con ρ` is for literals such as `pos 2`.) State it over ℤ and apply it at `pos n`: a `pos n`
 -- with a variable n computes too early to be read. Assumes nothing.
