@@ -34,5 +34,5 @@ printed {out = out} {at} {out'} {next} answered is put few = record {
 pub returns : goal.returns
 returns c =
     let told = c.answer_to-answered in
-    let to_is = to_z-of_z w64 told.result.to (record { sfits = c.struct_told-1.given.0.1 }) in
+    let to_is = to_z-of_z w64 told.result.to (record { sfits = search rules }) in
     printed told.result told.ensures (rw to_is at c.write_line.ensures) (short_answered told.result _ told.type_inv)

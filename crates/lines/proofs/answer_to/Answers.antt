@@ -35,14 +35,13 @@ module _ {line : Line} (table : Judged) (coefficients : List ℤ) where
 
 pub returns-in-Numbers : goal.returns-in-Numbers
 returns-in-Numbers c =
-    let told = c.in-Numbers.known_told-1-own.given in
     let found = c.in-Numbers in
-    let from_is = to_z-of_z w64 found.from (record { sfits = told.0.1 }) in
-    let to_is = to_z-of_z w64 found.to (record { sfits = told.1.0.1 }) in
-    let tick_is = to_z-of_z w64 found.tick (record { sfits = told.1.1.0.1 }) in
+    let from_is = to_z-of_z w64 found.from (record { sfits = search rules }) in
+    let to_is = to_z-of_z w64 found.to (record { sfits = search rules }) in
+    let tick_is = to_z-of_z w64 found.tick (record { sfits = search rules }) in
     ap (λ (to : ℤ). record { to = to; answer = c.convert_judged-answer.result }) to_is
-    ∙ understood c.args.judged c.args.coefficients.now (sym c.read_line.ensures ∙ found.is) (rw from_is at c.code_of.ensures)
-    (rw to_is at c.code_of-in-Numbers.ensures) (rw tick_is at c.convert_judged-answer.ensures)
+    ∙ understood c.args.judged c.args.coefficients.now (sym c.read_line.ensures ∙ found.is) (c.code_of.ensures ∙ ap code_of from_is)
+    (c.code_of-in-Numbers.ensures ∙ ap code_of to_is) (rw tick_is at c.convert_judged-answer.ensures)
 
 pub returns-in-Refused : goal.returns-in-Refused
 returns-in-Refused c = refused c.args.judged c.args.coefficients.now (sym c.read_line.ensures ∙ c.in-Refused.is)

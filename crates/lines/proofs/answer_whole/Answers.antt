@@ -1,8 +1,6 @@
-use borrow.Author.Rules.{rules}
 use borrow.Author.Tests.{ne_eqb}
 use mathlib.Core.Path.{◌≡◌, refl, sym, ◌∙◌, ap}
 use mathlib.Core.List.{List, [], ◌∷◌, ◌++◌}
-use mathlib.Core.Logic.{⊎_elim}
 use Prim.Native.Nat.{ℕ, ◌+◌, ◌-◌, ◌*◌, ◌≤◌, ◌<◌}
 use native.Mathlib.Numerals.{add-one}
 use native.Mathlib.Omega.{arith}
@@ -10,7 +8,7 @@ use lib.IntN.{ℤ}
 use lib.ListN.{length, get_or, take, drop, length-append}
 use lib.Seq.{length-take-le, take-suc, take_all, take-add, drop_at}
 use Rattle.blocks.specs.declared.answer.Judged.{Judged}
-use Rattle.printing.specs.Buffers.{longest, TextPut}
+use Rattle.printing.specs.Buffers.{longest, with_text}
 use Rattle.printing.proofs.Filling.{length_kept, then_text}
 use Rattle.line.specs.Lines.{line_read}
 use Rattle.lines.specs.Output.{lines_of, next_line, line_after, output_from, whole_lines, unfinished, printed_for}
@@ -20,7 +18,6 @@ use Rattle.lines.proofs.Parts.{put_nothing}
 use Rattle.lines.proofs.Pieces.{output_newline, output_nothing, after_newline}
 use Rattle.lines.proofs.answer_whole.Invariants.{Passed}
 use Rattle.lines.proofs.answer_whole.Goals as goal
-use Rattle.lines.proofs.answer_whole.Goals.{then-text-i-eq10, else-text-i-eq10}
 
 at_first : (text : List ℕ) (first : ℕ) (table : Judged) (coefficients : List ℤ) (out : List ℕ)
     → Passed text first table coefficients out out 0 0 first 0
@@ -106,6 +103,14 @@ module _ {text : List ℕ} {first : ℕ} {table : Judged} {coefficients : List �
           few = omega (arith, before, passed.few, printed.short);
         }
 
+      at_newline : let line_text =
+          printed_for table coefficients (line_read (take (i - start) (drop start text)) line) in
+          get_or text i 0 ≡ 10 → length line_text ≤ longest
+          → Passed text first table coefficients out₀ (with_text out end line_text) (i + 1) (end + length line_text)
+          (next_line line) (i + 1)
+      at_newline newline few =
+          ended newline (record { put = record { holds = refl; after = refl }; short = omega arith }) refl
+
 pub loop-i-init : goal.loop-i-init
 loop-i-init c = at_first _ _ _ _ _
 
@@ -138,16 +143,15 @@ overflow_add-i c = omega arith
 pub loop-i-smaller : goal.loop-i-smaller
 loop-i-smaller c = omega arith
 
+-- by both cases of the byte: no test is named
 pub loop-i-preserved : goal.loop-i-preserved
 loop-i-preserved c =
     let p = c.loop-i.invariant in
     let room = c.requires.room in
     let more = c.loop-i-test.true in
-    elim c.if-text-i-eq10.branch [
-      | then-text-i-eq10 w ↦ rw (w.out-is, w.start-is, w.end-is, w.line-is)
-          (ended p room more w.if-text-i-eq10.true w.answer_line-end.ensures w.next_line-line.ensures)
-      | else-text-i-eq10 w ↦ rw (w.out-is, w.start-is, w.end-is, w.line-is) (on p room more w.if-text-i-eq10.false)
-    ]
+    let other = on p room more in
+    let newline = at_newline p room more in
+    grind (arith, other, newline)
 
 pub shape_of-out : goal.shape_of-out
 shape_of-out c = same c.loop-i.invariant c.requires.room

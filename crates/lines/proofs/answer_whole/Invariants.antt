@@ -1,25 +1,13 @@
 -- `lines::answer_whole` meets its contract. The invariant: the whole lines of the bytes passed are
 -- answered and counted. Assumes nothing.
-use borrow.Author.Rules.{rules}
-use borrow.Author.Tests.{ne_eqb}
-use mathlib.Core.Path.{◌≡◌, refl, sym, ◌∙◌, ap}
-use mathlib.Core.List.{List, [], ◌∷◌, ◌++◌}
-use mathlib.Core.Logic.{⊎_elim}
-use Prim.Native.Nat.{ℕ, ◌+◌, ◌-◌, ◌*◌, ◌≤◌, ◌<◌}
-use native.Mathlib.Numerals.{add-one}
-use native.Mathlib.Omega.{arith}
+use mathlib.Core.Path.{◌≡◌}
+use mathlib.Core.List.{List}
+use Prim.Native.Nat.{ℕ, ◌-◌, ◌*◌, ◌≤◌}
 use lib.IntN.{ℤ}
-use lib.ListN.{length, get_or, take, drop, length-append}
-use lib.Seq.{length-take-le, take-suc, take_all, take-add, drop_at}
+use lib.ListN.{length, take}
 use Rattle.blocks.specs.declared.answer.Judged.{Judged}
 use Rattle.printing.specs.Buffers.{longest, TextPut}
-use Rattle.printing.proofs.Filling.{length_kept, then_text}
-use Rattle.line.specs.Lines.{line_read}
-use Rattle.lines.specs.Output.{lines_of, next_line, line_after, output_from, whole_lines, unfinished, printed_for}
-use Rattle.lines.specs.Buffers.{LinesAnswered, Printed}
-use Rattle.lines.proofs.Splits.{whole_short, after_whole, whole_grown, whole_ended}
-use Rattle.lines.proofs.Parts.{put_nothing}
-use Rattle.lines.proofs.Pieces.{output_newline, output_nothing, after_newline}
+use Rattle.lines.specs.Output.{lines_of, line_after, output_from, whole_lines}
 use Rattle.lines.proofs.answer_whole.Given as goal
 
 pub record Passed (text : List ℕ) (first : ℕ) (table : Judged) (coefficients : List ℤ) (out₀ : List ℕ) (out : List ℕ)

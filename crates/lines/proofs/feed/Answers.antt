@@ -1,5 +1,4 @@
 -- `lines::feed` meets its contract: what is kept begins where the whole lines end. Assumes nothing.
-use borrow.Author.Rules.{rules}
 use mathlib.Core.Path.{◌≡◌, sym, ◌∙◌, ap}
 use Prim.Native.Nat.{ℕ}
 use native.Mathlib.Omega.{arith}
@@ -33,4 +32,4 @@ returns c =
     let text = take c.args.filled c.args.text.now in
     let e : drop c.answer_whole-whole.result.text text ≡ unfinished text = ap (λ (n : ℕ). drop n text) c.answer_whole-whole.ensures.begins
     ∙ after_whole text in
-    record { kept = rw e at c.keep-kept.ensures; put = c.answer_whole-whole.ensures.put; next = c.answer_whole-whole.ensures.next }
+    record { kept = rw (← e) c.keep-kept.ensures; put = c.answer_whole-whole.ensures.put; next = c.answer_whole-whole.ensures.next }

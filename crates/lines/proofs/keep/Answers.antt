@@ -1,4 +1,3 @@
-use borrow.Author.Rules.{rules}
 use mathlib.Core.Path.{◌≡◌, sym, ◌∙◌, ap}
 use mathlib.Core.List.{List, [], ◌∷◌, ◌++◌}
 use Prim.Native.Nat.{ℕ, ◌+◌, ◌-◌, ◌≤◌, ◌<◌}
@@ -69,26 +68,11 @@ module _ {text₀ : List ℕ} {start end : ℕ} (moving : Moving text₀ start e
 pub loop-kept-init : goal.loop-kept-init
 loop-kept-init c = at_first c.requires
 
-pub overflow_add-start : goal.overflow_add-start
-overflow_add-start c = omega (arith, c.loop-kept.invariant.inside, c.ranges.end)
-
 pub shape_of-text-then-start-kept : goal.shape_of-text-then-start-kept
 shape_of-text-then-start-kept c = same c.requires c.loop-kept.invariant
 
 pub returns-then-start-kept : goal.returns-then-start-kept
 returns-then-start-kept c = ended c.requires c.loop-kept.invariant c.if-start-kept.true
-
-pub overflow_add-text : goal.overflow_add-text
-overflow_add-text c = omega (arith, c.loop-kept.invariant.inside, c.ranges.end)
-
-pub bounds-text-start : goal.bounds-text-start
-bounds-text-start c = omega (arith, same c.requires c.loop-kept.invariant, c.requires.inside, c.if-start-kept.false)
-
-pub bounds-text-kept : goal.bounds-text-kept
-bounds-text-kept c = let h = bounds-text-start c in omega arith
-
-pub loop-kept-smaller : goal.loop-kept-smaller
-loop-kept-smaller c = omega arith
 
 pub loop-kept-preserved : goal.loop-kept-preserved
 loop-kept-preserved c = next c.requires c.loop-kept.invariant c.if-start-kept.false c.loop-kept-test.true

@@ -1,5 +1,4 @@
 -- `lines::next_line` meets its contract. Assumes nothing.
-use borrow.Author.Rules.{rules}
 use native.Mathlib.Omega.{arith}
 use Rattle.lines.proofs.Numbering.{next_is, next_stays}
 use Rattle.lines.proofs.next_line.Goals as goal
