@@ -65,9 +65,9 @@ module _ (table : Judged) (coefficients : List ℤ) where
   unfolding output_from lines_of read_from printed_lines
   output_nothing line = refl
 
-  pub output_none : (line : ℕ) (text : List ℕ) → length text ≡ 0 → output line text ≡ []
-  output_none line [] h = output_nothing line
-  output_none line (byte ∷ more) h = let z : ⊥ = omega arith in absurd z
+  pub empty : (line : ℕ) (text : List ℕ) → length text ≡ 0 → output line text ≡ []
+  empty line [] h = output_nothing line
+  empty line (byte ∷ more) h = let z : ⊥ = omega arith in absurd z
 
   -- a line whose newline is missing
   pub output_last : (line : ℕ) (text : List ℕ) → has_newline text ≡ false → 1 ≤ length text

@@ -167,7 +167,7 @@ pub fn feed(
 
 // Answers the last line, which has no newline, if there is any of it: 'the last newline may be
 // missing'. `line` is its number.
-#[tactic(auto, using(crate::proofs::Pieces::output_none), unfolding(printing::specs::Buffers::with_text))]
+#[tactic(auto, using(crate::proofs::Pieces::empty), unfolding(printing::specs::Buffers::with_text))]
 pub fn answer_last(
     text: &[u8],
     line: u64,
