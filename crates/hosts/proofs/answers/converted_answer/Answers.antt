@@ -7,7 +7,7 @@ use Rattle.hosts.proofs.answers.converted_answer.Goals as goal
 
 pub returns-in-Converted : goal.returns-in-Converted
 unfolding answer_number answer_place answer_tick answer_steps
-returns-in-Converted c = rw (c.in-Converted.is, to_z-of_z w64 _ (record { sfits = c.struct_told-1.given.1.0.1 }))
+returns-in-Converted c = rw (c.in-Converted.is, to_z-of_z w64 c.in-Converted.epoch.tick (record { sfits = search rules }))
 
 pub returns-in-Refused : goal.returns-in-Refused
 unfolding answer_number answer_place answer_tick answer_steps

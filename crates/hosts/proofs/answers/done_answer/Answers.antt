@@ -1,5 +1,4 @@
 -- `hosts::answers::done_answer` meets its contract. Assumes nothing.
-use borrow.Author.Rules.{rules}
 use Rattle.hosts.proofs.answers.done_answer.Goals as goal
 
 pub returns-in-Accepted : goal.returns-in-Accepted

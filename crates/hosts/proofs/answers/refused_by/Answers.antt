@@ -1,5 +1,4 @@
 -- `hosts::answers::refused_by` meets its contract. Assumes nothing.
-use borrow.Author.Rules.{rules}
 use Rattle.hosts.proofs.answers.refused_by.Goals as goal
 
 pub returns : goal.returns

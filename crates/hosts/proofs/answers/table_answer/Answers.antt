@@ -8,8 +8,8 @@ pub returns-in-Accepted : goal.returns-in-Accepted
 returns-in-Accepted c =
     rw (
       c.in-Accepted.is,
-      to_z-of_z w64 _ (record { sfits = c.struct_told-1.given.0.1 }),
-      to_z-of_z w64 _ (record { sfits = c.struct_told-in-Accepted-1.given.1.0.1 }),
+      to_z-of_z w64 c.in-Accepted.table.start.0 (record { sfits = search rules }),
+      to_z-of_z w64 c.in-Accepted.table.length (record { sfits = search rules }),
     )
 
 pub returns-in-Refused : goal.returns-in-Refused

@@ -1,7 +1,6 @@
 -- `hosts::changes::colliedash_compare_tables` meets its contract. Assumes nothing.
 use mathlib.Core.Path.{◌∙◌, ap}
 use Rattle.hosts.specs.Changes.{changes_answer}
-use borrow.Author.Rules.{rules}
 use Rattle.hosts.proofs.changes.colliedash_compare_tables.Goals as goal
 
 pub returns : goal.returns

@@ -1,5 +1,4 @@
 -- `hosts::conversions::colliedash_batch` meets its contract. Assumes nothing.
-use borrow.Author.Rules.{rules}
 use mathlib.Core.Path.{◌∙◌, ap}
 use Rattle.hosts.specs.Conversions.{batch_answer}
 use Rattle.hosts.proofs.conversions.colliedash_batch.Goals as goal

@@ -1,5 +1,4 @@
 -- `hosts::conversions::colliedash_convert_j2000` meets its contract. Assumes nothing.
-use borrow.Author.Rules.{rules}
 use mathlib.Core.Path.{◌∙◌, ap}
 use Rattle.hosts.specs.Conversions.{converted_answer}
 use Rattle.hosts.proofs.conversions.colliedash_convert_j2000.Goals as goal

@@ -3,7 +3,6 @@ use mathlib.Core.Path.{◌∙◌, ap}
 use mir.Syntax.{w64}
 use mir.ValLaws.{to_z-of_z}
 use Rattle.hosts.specs.Dates.{date_answer}
-use borrow.Author.Rules.{rules}
 use Rattle.hosts.proofs.date.colliedash_write_date.Goals as goal
 
 pub returns : goal.returns

@@ -1,5 +1,4 @@
 -- `hosts::date::date_answer` meets its contract. Assumes nothing.
-use borrow.Author.Rules.{rules}
 use Rattle.hosts.proofs.date.date_answer.Goals as goal
 
 pub returns-in-Date : goal.returns-in-Date

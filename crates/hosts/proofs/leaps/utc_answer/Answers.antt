@@ -8,8 +8,11 @@ use Rattle.hosts.proofs.leaps.utc_answer.Goals as goal
 pub returns-in-Written : goal.returns-in-Written
 unfolding utc_answer_number utc_answer_place utc_answer_day utc_answer_ticks utc_answer_steps
 returns-in-Written c =
-    let told = c.struct_told-1.given in
-    rw (c.in-Written.is, to_z-of_z w64 _ (record { sfits = told.0.1 }), to_z-of_z w64 _ (record { sfits = told.1.0.1 }))
+    rw (
+      c.in-Written.is,
+      to_z-of_z w64 c.in-Written.utc.day (record { sfits = search rules }),
+      to_z-of_z w64 c.in-Written.utc.ticks (record { sfits = search rules }),
+    )
 
 pub returns-in-Refused : goal.returns-in-Refused
 unfolding utc_answer_number utc_answer_place utc_answer_day utc_answer_ticks utc_answer_steps

@@ -1,7 +1,6 @@
 -- `hosts::tables::colliedash_judge` meets its contract. Assumes nothing.
 use mathlib.Core.Path.{◌∙◌, ap}
 use Rattle.hosts.specs.Answers.{table_answer}
-use borrow.Author.Rules.{rules}
 use Rattle.hosts.proofs.tables.colliedash_judge.Goals as goal
 
 pub returns : goal.returns
