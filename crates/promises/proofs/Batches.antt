@@ -12,7 +12,6 @@ use lib.ListN.{length, get_or}
 use lib.Signed.{◌≤ℤ◌}
 use Rattle.numbers.proofs.Order.{le_or_lt}
 use Rattle.scales.specs.declared.answer.Answer.{Answer}
-use Rattle.scales.specs.declared.answer.Answer.TheVariants as Answer
 use Rattle.scales.specs.declared.answer.Epoch.{Epoch}
 use Rattle.scales.specs.Answers.{answer_number, answer_place, answer_tick, answer_steps}
 use Rattle.scales.specs.Path.{steps, crosses}

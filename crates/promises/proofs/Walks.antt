@@ -22,7 +22,6 @@ use Rattle.image.specs.declared.table.Table.{Table}
 use Rattle.blocks.specs.declared.answer.Judged.{Judged}
 use Rattle.blocks.specs.declared.answer.Judged.TheVariants as J
 use Rattle.blocks.specs.Judging.{judged}
-use Rattle.ephemeris.specs.Accepted.{Accepted}
 use Rattle.scales.specs.declared.answer.Read.{Read}
 use Rattle.scales.specs.declared.answer.Read.TheVariants as R
 use Rattle.dates.specs.declared.reading.Reading.{Reading}
