@@ -3,9 +3,6 @@ use mathlib.Core.Path.{sym, ◌∙◌}
 use Rattle.filling.proofs.Filling.{filled_not, filled_all}
 use Rattle.filling.proofs.batch_over.Goals as goal
 
-pub write_all-requires : goal.write_all-requires
-write_all-requires c = record { ready = c.requires; steps = _; accepted = sym c.tried-answer.ensures ∙ c.in-Converted.is }
-
 pub returns-in-Refused : goal.returns-in-Refused
 returns-in-Refused c = filled_not _ _ (sym c.tried-answer.ensures ∙ c.in-Refused.is)
 
