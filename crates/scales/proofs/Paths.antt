@@ -5,7 +5,7 @@ use mathlib.Core.List.{List, [], ◌∷◌}
 use borrow.Author.Tests.{eqb-true}
 use Rattle.numbers.proofs.Flags.{both}
 use Rattle.scales.specs.declared.path.Step.{Step}
-use Rattle.scales.specs.declared.path.Way.TheVariants.{Here}
+use Rattle.std.specs.Prelude.{None}
 use Rattle.scales.specs.declared.scale.Scale.{Scale}
 use Rattle.scales.specs.Path.{own_code, is_one_scale, next, path}
 use Rattle.scales.specs.Rows.{begin, end, opposite}
@@ -16,8 +16,8 @@ one_scale : (from to : Scale) → is_one_scale from to ≡ true → from ≡ to
 one_scale from to e = sym (by_code from) ∙ ap named (eqb-true (own_code from) (own_code to) e) ∙ by_code to
 
 -- from a scale to itself there is no step
-pub one_scale_here : (from to : Scale) → is_one_scale from to ≡ true → next from to ≡ Here
-one_scale_here from to e = rw (one_scale from to e) (every_scale (λ scale. next scale scale) (λ scale. Here) refl to)
+pub one_scale_here : (from to : Scale) → is_one_scale from to ≡ true → next from to ≡ None
+one_scale_here from to e = rw (one_scale from to e) (every_scale (λ scale. next scale scale) (λ scale. None) refl to)
 
 -- a walk from scale to scale: each step begins where the one before ended
 abbrev pub Leads : Scale → Scale → List Step → Type 0

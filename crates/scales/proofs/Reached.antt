@@ -1,19 +1,20 @@
 -- A step that reaches an epoch: what the others are not, and what is kept. Assumes nothing.
+use Rattle.std.specs.Prelude.{Ok, Err}
 use mathlib.Core.Path.{◌≡◌, refl, ap}
 use mathlib.Core.Bool.{Bool, true, false, cond}
 use Prim.Native.Nat.{ℕ}
 use native.Mathlib.Omega.{arith}
 use lib.IntN.{ℤ}
 use Rattle.scales.specs.declared.answer.Epoch.{Epoch}
-use Rattle.scales.specs.declared.answer.Stepped.TheVariants.{Reached, OutsideTable, OutsideRange}
+use Rattle.scales.specs.declared.answer.Outside.TheVariants as Outside
 use Rattle.scales.specs.declared.scale.Scale.{Scale}
-use Rattle.scales.specs.Answers.{kept_in}
+use Rattle.scales.specs.Answers.{Stepped, kept_in}
 use Rattle.scales.specs.Tick.{is_valid}
 
-pub nowhere : {A : Type 0} {epoch : Epoch} → OutsideTable ≡ Reached epoch → A
+pub nowhere : {A : Type 0} {epoch : Epoch} → (Err Outside.Table) ≡ Ok epoch → A
 nowhere e = let z : ◌≡◌ {A = ℕ} 0 1 = cc in let no : ⊥ = omega arith in absurd no
 
-pub out_of_range : {A : Type 0} {epoch : Epoch} → OutsideRange ≡ Reached epoch → A
+pub out_of_range : {A : Type 0} {epoch : Epoch} → (Err Outside.Range) ≡ Ok epoch → A
 out_of_range e = let z : ◌≡◌ {A = ℕ} 0 1 = cc in let no : ⊥ = omega arith in absurd no
 
 -- the parts of one epoch
@@ -24,27 +25,27 @@ pub same_scale : {x y : Epoch} → x ≡ y → x.scale ≡ y.scale
 same_scale e = ap (λ (epoch : Epoch). epoch.scale) e
 
 -- what is kept is valid, and is the epoch reached
-pub kept_reached : (scale : Scale) (tick : ℤ) (epoch : Epoch) → kept_in scale tick ≡ Reached epoch
+pub kept_reached : (scale : Scale) (tick : ℤ) (epoch : Epoch) → kept_in scale tick ≡ Ok epoch
     → (is_valid tick ≡ true) × (record { scale = scale; tick = tick } ≡ epoch)
 unfolding kept_in
 kept_reached scale tick epoch e = by (is_valid tick) e
   where
-    by : (valid : Bool) → cond valid (Reached (record { scale = scale; tick = tick })) OutsideRange ≡ Reached epoch
+    by : (valid : Bool) → cond {A = Stepped} valid (Ok (record { scale = scale; tick = tick })) (Err Outside.Range) ≡ Ok epoch
         → (valid ≡ true) × (record { scale = scale; tick = tick } ≡ epoch)
     by true e = (refl, cc)
     by false e = out_of_range e
 
 -- and what is valid is kept
 pub valid_kept : (scale : Scale) (tick : ℤ) → is_valid tick ≡ true
-    → kept_in scale tick ≡ Reached (record { scale = scale; tick = tick })
+    → kept_in scale tick ≡ Ok (record { scale = scale; tick = tick })
 unfolding kept_in
 valid_kept scale tick valid = rw valid
 
 -- outside the table comes of no kept tick
-pub kept_inside : {A : Type 0} (scale : Scale) (tick : ℤ) → kept_in scale tick ≡ OutsideTable → A
+pub kept_inside : {A : Type 0} (scale : Scale) (tick : ℤ) → kept_in scale tick ≡ (Err Outside.Table) → A
 unfolding kept_in
 kept_inside {A} scale tick e = by (is_valid tick) e
   where
-    by : (valid : Bool) → cond valid (Reached (record { scale = scale; tick = tick })) OutsideRange ≡ OutsideTable → A
+    by : (valid : Bool) → cond {A = Stepped} valid (Ok (record { scale = scale; tick = tick })) (Err Outside.Range) ≡ (Err Outside.Table) → A
     by true e = let z : ◌≡◌ {A = ℕ} 0 1 = cc in let no : ⊥ = omega arith in absurd no
     by false e = let z : ◌≡◌ {A = ℕ} 0 1 = cc in let no : ⊥ = omega arith in absurd no

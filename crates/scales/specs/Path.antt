@@ -1,12 +1,11 @@
 -- 'A conversion walks the only path': from scale to scale, one step after the other.
 use Rattle.std.specs.Prelude.{Bool, true, false, ◌||◌, List, [], ◌∷◌, ℕ, zero, suc, eqb, length}
+use Rattle.std.specs.Prelude.{Option, Some, None}
 use Rattle.scales.specs.declared.path.Line.{Line}
 use Rattle.scales.specs.declared.path.Line.TheVariants.{GpsTai, TaiTt, TcgTt, TcbTdb}
 use Rattle.scales.specs.declared.path.Edge.TheVariants as Edge
 use Rattle.scales.specs.declared.path.Step.{Step}
 use Rattle.scales.specs.declared.path.Step.TheVariants.{Along, Back}
-use Rattle.scales.specs.declared.path.Way.{Way}
-use Rattle.scales.specs.declared.path.Way.TheVariants.{Here, By}
 use Rattle.scales.specs.declared.scale.Scale.{Scale}
 use Rattle.scales.specs.declared.scale.Scale.TheVariants.{Gps, Tai, Tt, Tcg, Tdb, Tcb}
 use Rattle.scales.specs.Rows.{end, over_table}
@@ -24,8 +23,8 @@ own_code Tcb = 6
 abbrev pub is_one_scale : Scale → Scale → Bool
 is_one_scale from to = eqb (own_code from) (own_code to)
 
--- one of these ways, by the scale to which the path leads
-abbrev pub leading_to : Scale → Way → Way → Way → Way → Way → Way → Way
+-- one of these steps, by the scale to which the path leads
+abbrev pub leading_to : Scale → (gps tai tt tcg tdb tcb : Option Step) → Option Step
 leading_to Gps gps tai tt tcg tdb tcb = gps
 leading_to Tai gps tai tt tcg tdb tcb = tai
 leading_to Tt gps tai tt tcg tdb tcb = tt
@@ -33,32 +32,32 @@ leading_to Tcg gps tai tt tcg tdb tcb = tcg
 leading_to Tdb gps tai tt tcg tdb tcb = tdb
 leading_to Tcb gps tai tt tcg tdb tcb = tcb
 
-abbrev along : Line → Way
-along line = By (Along (Edge.Linear line))
+abbrev along : Line → Option Step
+along line = Some (Along (Edge.Linear line))
 
-abbrev back : Line → Way
-back line = By (Back (Edge.Linear line))
+abbrev back : Line → Option Step
+back line = Some (Back (Edge.Linear line))
 
-abbrev over : Way
-over = By (Along Edge.Table)
+abbrev over : Option Step
+over = Some (Along Edge.Table)
 
-abbrev back_over : Way
-back_over = By (Back Edge.Table)
+abbrev back_over : Option Step
+back_over = Some (Back Edge.Table)
 
 -- the next step from the first scale on the way to the second.
 -- The columns: to GPS, to TAI, to TT, to TCG, to TDB, to TCB
-abbrev pub next : Scale → Scale → Way
-next Gps to = let tai = along GpsTai in leading_to to Here tai tai tai tai tai
-next Tai to = let tt = along TaiTt in leading_to to (back GpsTai) Here tt tt tt tt
-next Tt to = leading_to to (back TaiTt) (back TaiTt) Here (back TcgTt) over over
-next Tcg to = let tt = along TcgTt in leading_to to tt tt tt Here tt tt
-next Tdb to = leading_to to back_over back_over back_over back_over Here (back TcbTdb)
-next Tcb to = let tdb = along TcbTdb in leading_to to tdb tdb tdb tdb tdb Here
+abbrev pub next : Scale → Scale → Option Step
+next Gps to = let tai = along GpsTai in leading_to to None tai tai tai tai tai
+next Tai to = let tt = along TaiTt in leading_to to (back GpsTai) None tt tt tt tt
+next Tt to = leading_to to (back TaiTt) (back TaiTt) None (back TcgTt) over over
+next Tcg to = let tt = along TcgTt in leading_to to tt tt tt None tt tt
+next Tdb to = leading_to to back_over back_over back_over back_over None (back TcbTdb)
+next Tcb to = let tdb = along TcbTdb in leading_to to tdb tdb tdb tdb tdb None
 
 -- the next step, if there is one, and the rest of the path from its end
-abbrev pub step_and_rest : (Scale → List Step) → Way → List Step
-step_and_rest rest Here = []
-step_and_rest rest (By step) = step ∷ rest (end step)
+abbrev pub step_and_rest : (Scale → List Step) → Option Step → List Step
+step_and_rest rest None = []
+step_and_rest rest (Some step) = step ∷ rest (end step)
 
 -- a path of at most so many steps
 abbrev pub path_within : ℕ → Scale → Scale → List Step

@@ -1,9 +1,8 @@
 -- A step is one row: where it begins, where it ends, and by what it goes. 'The scales form one line
 -- with a branch: GPS, TAI, TT, then TT to TCG, and TT to TDB to TCB': its edges, each along and
 -- back.
-use Rattle.std.specs.Prelude.{Bool, true, false, cond, ℤ}
-use Rattle.scales.specs.declared.answer.Stepped.{Stepped}
-use Rattle.scales.specs.declared.answer.Stepped.TheVariants.{OutsideRange}
+use Rattle.std.specs.Prelude.{Bool, true, false, cond, ℤ, Err}
+use Rattle.scales.specs.declared.answer.Outside.TheVariants as Outside
 use Rattle.scales.specs.declared.path.Line.{Line}
 use Rattle.scales.specs.declared.path.Line.TheVariants.{GpsTai, TaiTt, TcgTt, TcbTdb}
 use Rattle.scales.specs.declared.path.Edge.{Edge}
@@ -12,7 +11,7 @@ use Rattle.scales.specs.declared.path.Step.{Step}
 use Rattle.scales.specs.declared.path.Step.TheVariants.{Along, Back}
 use Rattle.scales.specs.declared.scale.Scale.{Scale}
 use Rattle.scales.specs.declared.scale.Scale.TheVariants.{Gps, Tai, Tt, Tcg, Tdb, Tcb}
-use Rattle.scales.specs.Answers.{kept_in}
+use Rattle.scales.specs.Answers.{Stepped, kept_in}
 use Rattle.scales.specs.Linear.{Linear, gps_to_tai, tai_to_tt, tcg_to_tt, tcb_to_tdb}
 use Rattle.scales.specs.Linear.{inverse, nearest_tick}
 use Rattle.scales.specs.Tick.{is_valid}
@@ -35,7 +34,7 @@ turned row = record { from = row.to; to = row.from; by = inverse row.by }
 
 -- from a valid tick to the nearest, if that is valid too; '4: epoch outside the range'
 unfoldable pub line_step : LineRow → ℤ → Stepped
-line_step row t = cond (is_valid t) (kept_in row.to (nearest_tick row.by t)) OutsideRange
+line_step row t = cond (is_valid t) (kept_in row.to (nearest_tick row.by t)) (Err Outside.Range)
 
 -- ---- any step: a linear one, or over the table from TT to TDB, or back over it
 pub data StepRow : Type 0 where

@@ -1,12 +1,11 @@
 -- 'Codes: 1 GPS, 2 TAI, 3 TT, 4 TCG, 5 TDB, 6 TCB; 0 is read as TT.' 'UTC is code 7 for readings
 -- and written readings only', and its tick is one of TAI.
-use Rattle.std.specs.Prelude.{Bool, cond, ◌&&◌, List, [], ◌∷◌, ℕ, leb, get_or}
+use Rattle.std.specs.Prelude.{Bool, cond, ◌&&◌, List, [], ◌∷◌, ℕ, leb, get_or, Result, Ok, Err}
+use Rattle.scales.specs.declared.refusal.Refusal.{Refusal}
 use Rattle.scales.specs.declared.scale.Scale.{Scale}
 use Rattle.scales.specs.declared.scale.Scale.TheVariants.{Gps, Tai, Tt, Tcg, Tdb, Tcb}
 use Rattle.scales.specs.declared.scale.Purpose.{Purpose}
 use Rattle.scales.specs.declared.scale.Purpose.TheVariants.{Reading, Batch, Line, Utc}
-use Rattle.scales.specs.declared.scale.Named.{Named}
-use Rattle.scales.specs.declared.scale.Named.TheVariants as N
 
 -- the scales that the codes from 0 on name, in the codes' order
 abbrev pub coded : List Scale
@@ -35,8 +34,8 @@ abbrev pub is_code : Purpose → ℕ → Bool
 is_code purpose code = leb (lowest_code purpose) code && leb code (highest_code purpose)
 
 -- refusal 1, place '0 from, 1 to'
-abbrev pub scale_of : Purpose → ℕ → ℕ → Named
+abbrev pub scale_of : Purpose → ℕ → ℕ → Result Scale Refusal
 scale_of purpose code place =
     cond (is_code purpose code)
-    (N.Scale (named code))
-    (N.Refused (record { number = 1; place = place }))
+    (Ok (named code))
+    (Err (record { number = 1; place = place }))

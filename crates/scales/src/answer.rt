@@ -2,49 +2,40 @@
 ghost use Rattle.std.specs.Prelude.{◌≡◌};
 ghost use Rattle.scales.specs.Answers.{kept_in};
 
-use crate::refusal::Refusal;
 use crate::scale::Scale;
 use crate::tick::valid;
 
 // A tick of a scale, past Julian date 2443144.5003725 as that scale reads it.
-#[derive(Clone, Copy)]
+#[derive(Clone, Copy, Debug, PartialEq, Eq)]
 pub struct Epoch {
     pub scale: Scale,
     pub tick: i64,
 }
 
-// What a reading says: a valid tick, or a refusal, which 'carries no tick'.
-#[derive(Clone, Copy)]
-pub enum Read {
-    Tick(i64),
-    Refused(Refusal),
+// What a conversion answers where it is not refused: 'the tick and the number of steps walked (0 to
+// 4)'.
+#[derive(Clone, Copy, Debug, PartialEq, Eq)]
+pub struct Converted {
+    pub epoch: Epoch,
+    pub steps: u32,
 }
 
-// 'Its answer carries the tick and the number of steps walked (0 to 4)', or it is a refusal, which
-// 'carries no tick'.
-#[derive(Clone, Copy)]
-pub enum Answer {
-    Converted(Epoch, u32),
-    Refused(Refusal),
-}
-
-// Where a step comes to: an epoch of the neighbouring scale; or refusal 6, 'outside the table'; or
-// refusal 4, it left the range.
-#[derive(Clone, Copy)]
-pub enum Stepped {
-    Reached(Epoch),
-    OutsideTable,
-    OutsideRange,
+// Where a step comes to that reaches no epoch of the neighbouring scale: refusal 6, 'outside the
+// table', or 4, it left the range. Their place is known to the walk alone.
+#[derive(Clone, Copy, Debug, PartialEq, Eq)]
+pub enum Outside {
+    Table,
+    Range,
 }
 
 // The epoch of a scale that a step came to, where its tick is valid.
 #[tactic(auto, unfolding(crate::specs::Answers::kept_in))]
-pub fn keep(scale: Scale, tick: i64) -> Stepped
+pub fn keep(scale: Scale, tick: i64) -> Result<Epoch, Outside>
     ensures { result ≡ kept_in scale tick }
 {
     if valid(tick) {
-        Stepped::Reached(Epoch { scale, tick })
+        Ok(Epoch { scale, tick })
     } else {
-        Stepped::OutsideRange
+        Err(Outside::Range)
     }
 }

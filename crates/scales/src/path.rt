@@ -2,14 +2,14 @@
 // TCG, and TT to TDB to TCB.' Each of its edges is a step along it and a step back.
 ghost use Rattle.std.specs.Prelude.{◌≡◌};
 ghost use Rattle.scales.specs.Rows.{edge_ends, end};
-ghost use Rattle.scales.specs.Path.{own_code, is_one_scale, leading_to, next, steps, barycentric};
+ghost use Rattle.scales.specs.Path.{is_one_scale, next, steps, barycentric};
 ghost use Rattle.scales.specs.Path.{crosses};
 
 use crate::scale::Scale;
 
 // The edges that are linear, each from and to as the page writes its equation: 'TAI = GPS + 19 s',
 // 'TT = TAI + 32.184 s', 'TT = TCG − L_G·TCG', 'TDB = TCB − L_B·TCB − 65,500 ticks'.
-#[derive(Clone, Copy)]
+#[derive(Clone, Copy, Debug, PartialEq, Eq)]
 pub enum Line {
     GpsTai,
     TaiTt,
@@ -18,52 +18,31 @@ pub enum Line {
 }
 
 // An edge: a line, or from TT to TDB over the table.
-#[derive(Clone, Copy)]
+#[derive(Clone, Copy, Debug, PartialEq, Eq)]
 pub enum Edge {
     Linear(Line),
     Table,
 }
 
 // A step, from a scale to its neighbour.
-#[derive(Clone, Copy)]
+#[derive(Clone, Copy, Debug, PartialEq, Eq)]
 pub enum Step {
     Along(Edge),
     Back(Edge),
 }
 
-// The next step of a path, or that it is at its end.
-#[derive(Clone, Copy)]
-pub enum Way {
-    Here,
-    By(Step),
-}
-
 // The scales at the two ends of an edge.
-#[derive(Clone, Copy)]
+#[derive(Clone, Copy, Debug, PartialEq, Eq)]
 struct Ends {
     from: Scale,
     to: Scale,
-}
-
-// The scale's own code, by which two are told apart.
-fn own_code(scale: Scale) -> u32
-    ensures { result ≡ own_code scale }
-{
-    match scale {
-        Scale::Gps => 1,
-        Scale::Tai => 2,
-        Scale::Tt => 3,
-        Scale::Tcg => 4,
-        Scale::Tdb => 5,
-        Scale::Tcb => 6,
-    }
 }
 
 // Whether the path has no step.
 pub fn is_one_scale(from: Scale, to: Scale) -> bool
     ensures { result ≡ is_one_scale from to }
 {
-    own_code(from) == own_code(to)
+    from == to
 }
 
 // 'the number of steps walked (0 to 4)'
@@ -108,54 +87,27 @@ pub fn end_of(step: Step) -> Scale
     }
 }
 
-// One of these ways, by the scale to which the path leads.
-fn leading_to(to: Scale, gps: Way, tai: Way, tt: Way, tcg: Way, tdb: Way, tcb: Way) -> Way
-    ensures { result ≡ leading_to to gps tai tt tcg tdb tcb }
-{
-    match to {
-        Scale::Gps => gps,
-        Scale::Tai => tai,
-        Scale::Tt => tt,
-        Scale::Tcg => tcg,
-        Scale::Tdb => tdb,
-        Scale::Tcb => tcb,
-    }
-}
-
-// The next step from `from` on the only way to `to`.
-pub fn next_step(from: Scale, to: Scale) -> Way
+// The next step from `from` on the only way to `to`, if there is one.
+pub fn next_step(from: Scale, to: Scale) -> Option<Step>
     ensures { result ≡ next from to }
 {
-    let here = Way::Here;
-    match from {
-        Scale::Gps => {
-            let tai = Way::By(Step::Along(Edge::Linear(Line::GpsTai)));
-            leading_to(to, here, tai, tai, tai, tai, tai)
-        }
-        Scale::Tai => {
-            let tt = Way::By(Step::Along(Edge::Linear(Line::TaiTt)));
-            let gps = Way::By(Step::Back(Edge::Linear(Line::GpsTai)));
-            leading_to(to, gps, here, tt, tt, tt, tt)
-        }
-        Scale::Tt => {
-            let tai = Way::By(Step::Back(Edge::Linear(Line::TaiTt)));
-            let tdb = Way::By(Step::Along(Edge::Table));
-            let tcg = Way::By(Step::Back(Edge::Linear(Line::TcgTt)));
-            leading_to(to, tai, tai, here, tcg, tdb, tdb)
-        }
-        Scale::Tcg => {
-            let tt = Way::By(Step::Along(Edge::Linear(Line::TcgTt)));
-            leading_to(to, tt, tt, tt, here, tt, tt)
-        }
-        Scale::Tdb => {
-            let tt = Way::By(Step::Back(Edge::Table));
-            let tcb = Way::By(Step::Back(Edge::Linear(Line::TcbTdb)));
-            leading_to(to, tt, tt, tt, tt, here, tcb)
-        }
-        Scale::Tcb => {
-            let tdb = Way::By(Step::Along(Edge::Linear(Line::TcbTdb)));
-            leading_to(to, tdb, tdb, tdb, tdb, tdb, here)
-        }
+    match (from, to) {
+        (Scale::Gps, Scale::Gps) => None,
+        (Scale::Gps, _) => Some(Step::Along(Edge::Linear(Line::GpsTai))),
+        (Scale::Tai, Scale::Gps) => Some(Step::Back(Edge::Linear(Line::GpsTai))),
+        (Scale::Tai, Scale::Tai) => None,
+        (Scale::Tai, _) => Some(Step::Along(Edge::Linear(Line::TaiTt))),
+        (Scale::Tt, Scale::Gps | Scale::Tai) => Some(Step::Back(Edge::Linear(Line::TaiTt))),
+        (Scale::Tt, Scale::Tt) => None,
+        (Scale::Tt, Scale::Tcg) => Some(Step::Back(Edge::Linear(Line::TcgTt))),
+        (Scale::Tt, Scale::Tdb | Scale::Tcb) => Some(Step::Along(Edge::Table)),
+        (Scale::Tcg, Scale::Tcg) => None,
+        (Scale::Tcg, _) => Some(Step::Along(Edge::Linear(Line::TcgTt))),
+        (Scale::Tdb, Scale::Tdb) => None,
+        (Scale::Tdb, Scale::Tcb) => Some(Step::Back(Edge::Linear(Line::TcbTdb))),
+        (Scale::Tdb, _) => Some(Step::Back(Edge::Table)),
+        (Scale::Tcb, Scale::Tcb) => None,
+        (Scale::Tcb, _) => Some(Step::Along(Edge::Linear(Line::TcbTdb))),
     }
 }
 
@@ -164,33 +116,20 @@ pub fn steps_between(from: Scale, to: Scale) -> u32
     ensures { result ≡ steps from to }
 {
     let mut at = from;
-    let mut walked: u32 = 0;
-    while walked < LONGEST_PATH {
-        match next_step(at, to) {
-            Way::Here => {
-                return walked;
-            }
-            Way::By(step) => {
-                at = end_of(step);
-            }
-        }
-        walked += 1;
+    for walked in 0..LONGEST_PATH {
+        let Some(step) = next_step(at, to) else {
+            return walked;
+        };
+        at = end_of(step);
     }
-    walked
+    LONGEST_PATH
 }
 
 // Whether a scale lies beyond the table, seen from TT.
 fn beyond_table(scale: Scale) -> bool
     ensures { result ≡ barycentric scale }
 {
-    match scale {
-        Scale::Gps => false,
-        Scale::Tai => false,
-        Scale::Tt => false,
-        Scale::Tcg => false,
-        Scale::Tdb => true,
-        Scale::Tcb => true,
-    }
+    matches!(scale, Scale::Tdb | Scale::Tcb)
 }
 
 // Whether the path takes the step between TT and TDB, either way: the one that needs a table.

