@@ -1,4 +1,7 @@
 -- What a batch answers, said by the conversions of its entries. Assumes nothing.
+use Rattle.entries.specs.Batched.{Batched, refused_at}
+use Rattle.scales.specs.Answers.{Answer, converted_to, answer_tick}
+use Rattle.std.specs.Prelude.{Ok}
 use mathlib.Core.Path.{◌≡◌, refl, sym, ◌∙◌, ap, subst}
 use mathlib.Core.Bool.{true}
 use mathlib.Core.List.{List, [], ◌∷◌}
@@ -11,18 +14,14 @@ use lib.IntN.{ℤ, pos}
 use lib.ListN.{length, get_or}
 use Rattle.numbers.proofs.Flags.{both}
 use Rattle.numbers.proofs.Places.{map_at}
-use Rattle.scales.specs.declared.answer.Answer.{Answer}
 use Rattle.scales.specs.declared.answer.Epoch.{Epoch}
 use Rattle.scales.specs.declared.refusal.Refusal.{Refusal}
 use Rattle.scales.specs.declared.scale.Purpose.TheVariants as P
-use Rattle.scales.specs.Answers.{answer_tick}
 use Rattle.scales.specs.Path.{steps}
 use Rattle.scales.specs.Scales.{named}
 use Rattle.blocks.specs.Judging.{judged}
 use Rattle.dates.specs.declared.reading.Reading.TheVariants.{Ticks}
 use Rattle.dates.specs.Readings.{read_of}
-use Rattle.entries.specs.declared.batched.Batched.{Batched}
-use Rattle.entries.specs.declared.batched.Batched.TheVariants.{Converted, Refused}
 use Rattle.desk.specs.Order.{Check, passes, refuses, settled}
 use Rattle.opened.specs.Opened.{coefficients_in}
 use Rattle.desk.specs.Conversion.{answering, held_by, convert_read, convert_into, convert_of}
@@ -42,8 +41,8 @@ check_tried passes entry many tick more = refl
 check_tried (refuses refusal) entry many tick more = refl
 
 -- an accepted batch was settled
-check_accepted : (check : Check) (batched : Batched) {n : ℕ} → batch_settled check batched ≡ Converted n
-    → (check ≡ passes) × (batched ≡ Converted n)
+check_accepted : (check : Check) (batched : Batched) {n : ℕ} → batch_settled check batched ≡ Ok n
+    → (check ≡ passes) × (batched ≡ Ok n)
 check_accepted passes batched e = (refl, e)
 check_accepted (refuses refusal) batched e = never_both refl e
 
@@ -71,14 +70,14 @@ module _ (from to : ℕ) (bytes : List ℕ) where
   -- at it the conversion is refused the same
   pub batch_refused : (ticks : List ℤ) (many : ℕ) {refusal : Refusal} {index : ℕ} → length ticks ≡ many
       → 0 < length ticks
-      → batch_of from to ticks many bytes ≡ Refused refusal index → FirstRefused conversion ticks refusal index
+      → batch_of from to ticks many bytes ≡ refused_at refusal index → FirstRefused conversion ticks refusal index
   batch_refused ticks many {refusal} long some e =
       let told = tried_refused conversion _ 0 ticks (sym (batch_tried ticks many long some) ∙ e) in
       subst (FirstRefused conversion ticks refusal) (sym (told.1 ∙ zero-add told.0)) told.2
 
-  module _ (ticks : List ℤ) (many : ℕ) {n : ℕ} (accepted : batch_of from to ticks many bytes ≡ Converted n) where
+  module _ (ticks : List ℤ) (many : ℕ) {n : ℕ} (accepted : batch_of from to ticks many bytes ≡ Ok n) where
     was_settled : (settled P.Batch P.Batch from to (eqb (length ticks) many) true (judged bytes) ≡ passes)
-        × (tried_of entry many_steps 0 ticks ≡ Converted n)
+        × (tried_of entry many_steps 0 ticks ≡ Ok n)
     unfolding batch_of
     was_settled =
         check_accepted (settled P.Batch P.Batch from to (eqb (length ticks) many) true (judged bytes)) (tried_of entry many_steps 0 ticks) accepted
@@ -93,15 +92,15 @@ module _ (from to : ℕ) (bytes : List ℕ) where
 
     -- every conversion is accepted, with the same steps
     pub accepted_entries : (i : ℕ) → i < length ticks
-        → (epoch : Epoch) × (conversion (get_or ticks i (pos 0)) ≡ Answer.Converted epoch n)
+        → (epoch : Epoch) × (conversion (get_or ticks i (pos 0)) ≡ converted_to epoch n)
     accepted_entries i h =
         let some : 0 < length ticks = omega arith in
         let told = (tried_accepted conversion _ 0 ticks (sym (batch_tried ticks many accepted_long some) ∙ accepted)).1 i h in
         let same : told.1 ≡ n = conversion_steps P.Reading from to (Ticks (get_or ticks i (pos 0))) [] bytes told.2 ∙ sym accepted_steps in
-        (told.0, told.2 ∙ ap (Answer.Converted told.0) same)
+        (told.0, told.2 ∙ ap (converted_to told.0) same)
 
   -- and the second list holds their ticks, place by place
-  pub accepted_ticks : (ticks answers : List ℤ) {n : ℕ} → batch_of from to ticks (length answers) bytes ≡ Converted n
+  pub accepted_ticks : (ticks answers : List ℤ) {n : ℕ} → batch_of from to ticks (length answers) bytes ≡ Ok n
       → (i : ℕ) → i < length ticks
       → get_or (batch_into from to ticks answers bytes) i (pos 0) ≡ answer_tick (conversion (get_or ticks i (pos 0)))
   unfolding batch_into
@@ -109,7 +108,7 @@ module _ (from to : ℕ) (bytes : List ℕ) where
 
   -- 'nothing is written'
   pub refused_untouched : (ticks answers : List ℤ) {refusal : Refusal} {index : ℕ}
-      → batch_of from to ticks (length answers) bytes ≡ Refused refusal index
+      → batch_of from to ticks (length answers) bytes ≡ refused_at refusal index
       → batch_into from to ticks answers bytes ≡ answers
   unfolding batch_into
   refused_untouched ticks answers e = rw e

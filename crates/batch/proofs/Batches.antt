@@ -1,5 +1,9 @@
 -- The laws of a batch by what is asked: over the table that the bytes hold, and the whole rule.
 -- Assumes nothing.
+use Rattle.entries.specs.Batched.{Batched, refused_at}
+use Rattle.blocks.specs.Answers.{Judged}
+use Rattle.scales.specs.Answers.{Answer, answer_tick}
+use Rattle.std.specs.Prelude.{Err, None, Ok}
 use mathlib.Core.Path.{◌≡◌, refl, sym, ◌∙◌, ap}
 use mathlib.Core.Bool.{Bool, true}
 use mathlib.Core.List.{List, [], ◌∷◌, map}
@@ -8,23 +12,16 @@ use lib.Dec.{eqb}
 use lib.IntN.{ℤ}
 use lib.ListN.{length}
 use Rattle.numbers.proofs.Flags.{both}
-use Rattle.scales.specs.declared.answer.Answer.{Answer}
 use Rattle.scales.specs.declared.refusal.Refusal.{Refusal}
 use Rattle.scales.specs.declared.scale.Purpose.TheVariants as P
 use Rattle.scales.specs.declared.scale.Scale.{Scale}
-use Rattle.scales.specs.Answers.{answer_tick}
 use Rattle.scales.specs.Scales.{named}
 use Rattle.image.specs.declared.table.Table.{Table}
-use Rattle.blocks.specs.declared.answer.Judged.{Judged}
-use Rattle.blocks.specs.declared.answer.Judged.TheVariants as J
 use Rattle.blocks.specs.Judging.{judged}
 use Rattle.dates.specs.declared.reading.Reading.TheVariants.{Ticks}
 use Rattle.dates.specs.Readings.{in_range, read_of}
 use Rattle.desk.specs.declared.asked.Asked.{Asked}
 use Rattle.desk.specs.declared.asked.Asked.TheVariants as A
-use Rattle.entries.specs.declared.batched.Batched.{Batched}
-use Rattle.entries.specs.declared.batched.Batched.TheVariants.{Refused}
-use Rattle.walk.specs.declared.kept.Kept.TheVariants as K
 use Rattle.opened.specs.Opened.{coefficients_in}
 use Rattle.desk.specs.Conversion.{held_by, convert_of}
 use Rattle.desk.specs.Inner.{asked_of, convert_asked}
@@ -38,21 +35,21 @@ use Rattle.opened.proofs.Opening.{coefficients_are}
 
 -- ---- over the table that the bytes hold
 module _ (from to : Scale) (ticks answers : List ℤ) (bytes : List ℕ) where
-  pub filled_taken : (table : Table) {answers' : List ℤ} {r : Batched} → judged bytes ≡ J.Accepted table
+  pub filled_taken : (table : Table) {answers' : List ℤ} {r : Batched} → judged bytes ≡ Ok table
       → FilledTaken from to ticks answers answers' bytes table r → FilledCrossing from to ticks answers answers' bytes r
   filled_taken table opened filled = rw (coefficients_are bytes table opened, opened) filled
 
-  pub filled_judged : (refusal : Refusal) → judged bytes ≡ J.Refused refusal
-      → FilledCrossing from to ticks answers answers bytes (Refused refusal 0)
+  pub filled_judged : (refusal : Refusal) → judged bytes ≡ Err refusal
+      → FilledCrossing from to ticks answers answers bytes (refused_at refusal 0)
   filled_judged refusal e = filled_not refusal 0 (rw e)
 
 -- ---- what is asked of an entry alone
 pub batch_fits : (from to : ℕ) (fits : Bool) (asked : Asked) → asked_of P.Batch P.Batch from to fits true ≡ asked
-    → ((refusal : Refusal) → asked ≡ A.Refused refusal → ⊥) → fits ≡ true
+    → ((refusal : Refusal) → asked ≡ Err refusal → ⊥) → fits ≡ true
 batch_fits from to fits asked e sound = (both fits true (asked_lent P.Batch P.Batch from to fits true asked e sound)).0
 
 pub asked_alone : (from to : ℕ) (fits : Bool) (asked : Asked) → asked_of P.Batch P.Batch from to fits true ≡ asked
-    → ((refusal : Refusal) → asked ≡ A.Refused refusal → ⊥)
+    → ((refusal : Refusal) → asked ≡ Err refusal → ⊥)
     → asked_of P.Reading P.Reading from to true true ≡ asked
 unfolding asked_of
 asked_alone from to fits asked e sound =
@@ -73,12 +70,12 @@ map_same f g same (tick ∷ more) = rw (same tick, map_same f g same more)
 module _ (from to : ℕ) (ticks : List ℤ) (table : Judged) (cs : List ℤ) where
   by_between : (asked : Asked) → Between (named from) (named to) asked → batch_asked asked ticks table cs
       ≡ batch_settled (settled_by asked table) (all_tried (named from) (named to) ticks (held_by table) cs)
-  by_between (A.Plain start end) b =
-      rw (b.0, b.1) (tried_same (entry_of (named from) (named to) K.Nothing [])
+  by_between (Ok (A.Plain start end)) b =
+      rw (b.0, b.1) (tried_same (entry_of (named from) (named to) None [])
       (entry_of (named from) (named to) (held_by table) cs)
-      (λ tick. between_unseen (named from) (named to) b.2 (in_range tick) K.Nothing (held_by table) [] cs) _ 0 ticks)
-  by_between (A.Crossing start end) b = rw (b.0, b.1)
-  by_between (A.Refused refusal) b = refl
+      (λ tick. between_unseen (named from) (named to) b.2 (in_range tick) None (held_by table) [] cs) _ 0 ticks)
+  by_between (Ok (A.Crossing start end)) b = rw (b.0, b.1)
+  by_between (Err refusal) b = refl
 
 -- by what is asked
 batch_asked_lem : (from to : ℕ) (ticks : List ℤ) (many : ℕ) (bytes : List ℕ) (asked : Asked)
@@ -92,11 +89,11 @@ batch_asked_lem from to ticks many bytes asked e =
 
 module _ (from to : ℕ) (ticks answers : List ℤ) (bytes : List ℕ) where
   pub has_refused : (refusal : Refusal)
-      → asked_of P.Batch P.Batch from to (eqb (length ticks) (length answers)) true ≡ A.Refused refusal
-      → HasConverted from to ticks answers answers bytes (Refused refusal 0)
+      → asked_of P.Batch P.Batch from to (eqb (length ticks) (length answers)) true ≡ Err refusal
+      → HasConverted from to ticks answers answers bytes (refused_at refusal 0)
   unfolding batch_into
   has_refused refusal e =
-      let is = batch_asked_lem from to ticks (length answers) bytes (A.Refused refusal) e in
+      let is = batch_asked_lem from to ticks (length answers) bytes (Err refusal) e in
       record { answer = is; list = rw (← is) }
 
   pub has_converted : (asked : Asked) {answers' : List ℤ} {r : Batched}

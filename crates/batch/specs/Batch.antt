@@ -2,15 +2,13 @@
 -- earliest refusal is the batch's, with its index, and nothing is written; for 1, 8 and the table's
 -- numbers the index is 0. An empty batch still gets checks 1, 8 and the table. An accepted batch
 -- answers the path's steps.'
+use Rattle.entries.specs.Batched.{Batched, refused_at, batched_left}
 use Rattle.std.specs.Prelude.{◌≡◌, true, List, [], map, ℕ, eqb, ℤ, length}
 use Rattle.scales.specs.declared.scale.Purpose.TheVariants as P
 use Rattle.scales.specs.Answers.{answer_tick}
 use Rattle.scales.specs.Scales.{named}
 use Rattle.blocks.specs.Judging.{judged}
 use Rattle.dates.specs.declared.reading.Reading.TheVariants.{Ticks}
-use Rattle.entries.specs.declared.batched.Batched.{Batched}
-use Rattle.entries.specs.declared.batched.Batched.TheVariants.{Refused}
-use Rattle.entries.specs.Batched.{batched_left}
 use Rattle.entries.specs.Entries.{all_tried}
 use Rattle.desk.specs.Order.{Check, passes, refuses, settled}
 use Rattle.opened.specs.Opened.{coefficients_in}
@@ -19,7 +17,7 @@ use Rattle.desk.specs.Conversion.{held_by, convert_of}
 -- 'for 1, 8 and the table's numbers the index is 0'
 abbrev pub batch_settled : Check → Batched → Batched
 batch_settled passes batched = batched
-batch_settled (refuses refusal) batched = Refused refusal 0
+batch_settled (refuses refusal) batched = refused_at refusal 0
 
 -- the whole rule of a batch into a list of so many
 unfoldable pub batch_of : ℕ → ℕ → List ℤ → ℕ → List ℕ → Batched

@@ -4,18 +4,23 @@
 
 ghost use Rattle.std.specs.Prelude.{◌≡◌, length};
 ghost use Rattle.batch.specs.Batch.{HasConverted};
-ghost use Rattle.batch.specs.Inner.{ReadyOver, FilledTaken};
-ghost use Rattle.batch.specs.Inner.{FilledCrossing};
+ghost use Rattle.batch.specs.Inner.{ReadyOver, FilledTaken, FilledCrossing};
 
-use blocks::answer::Judged;
 use blocks::judging::judge;
 use desk::asked::{Asked, asked_of};
-use entries::batched::Batched;
+use entries::batched::RefusedAt;
 use filling::batch_over;
 use image::table::Table;
 use opened::{how_many, taken};
+use scales::refusal::Refusal;
 use scales::scale::{Purpose, Scale};
-use walk::kept::Kept;
+
+// A refusal of all entries at once, which has the first one's index.
+fn of_all(refusal: Refusal) -> RefusedAt
+    ensures { result ≡ record { refusal = refusal; index = 0 } }
+{
+    RefusedAt { refusal, index: 0 }
+}
 
 // Over the table that the bytes hold. They have been judged and accepted.
 fn batch_taken(
@@ -25,7 +30,7 @@ fn batch_taken(
     answers: &mut [i64],
     bytes: &[u8],
     table: Table,
-) -> Batched
+) -> Result<u32, RefusedAt>
     requires { ReadyOver ticks.now answers.old bytes.now table }
     ensures { FilledTaken from to ticks.now answers.old
         answers.new bytes.now table result }
@@ -37,7 +42,7 @@ fn batch_taken(
         to,
         ticks,
         answers,
-        Kept::Table(table),
+        Some(table),
         &coefficients[..many],
     )
 }
@@ -49,27 +54,24 @@ fn batch_crossing(
     ticks: &[i64],
     answers: &mut [i64],
     bytes: &[u8],
-) -> Batched
+) -> Result<u32, RefusedAt>
     requires { length answers.old ≡ length ticks.now }
     ensures { FilledCrossing from to ticks.now answers.old
         answers.new bytes.now result }
 {
-    match judge(bytes) {
-        Judged::Accepted(table) => batch_taken(from, to, ticks, answers, bytes, table),
-        Judged::Refused(refusal) => Batched::Refused(refusal, 0),
-    }
+    let table = judge(bytes).map_err(of_all)?;
+    batch_taken(from, to, ticks, answers, bytes, table)
 }
 
 // Converts ticks of the scale of the first code into ticks of the scale of the second, over the
 // table that the bytes hold: all of them, or none and the refusal.
-pub fn batch(from: u32, to: u32, ticks: &[i64], answers: &mut [i64], table: &[u8]) -> Batched
+pub fn batch(from: u32, to: u32, ticks: &[i64], answers: &mut [i64], table: &[u8]) -> Result<u32, RefusedAt>
     ensures { HasConverted from to ticks.now answers.old
         answers.new table.now result }
 {
     let fits = ticks.len() == answers.len();
-    match asked_of(Purpose::Batch, Purpose::Batch, from, to, fits, true) {
-        Asked::Plain(start, end) => batch_over(start, end, ticks, answers, Kept::Nothing, &[]),
+    match asked_of(Purpose::Batch, Purpose::Batch, from, to, fits, true).map_err(of_all)? {
+        Asked::Plain(start, end) => batch_over(start, end, ticks, answers, None, &[]),
         Asked::Crossing(start, end) => batch_crossing(start, end, ticks, answers, table),
-        Asked::Refused(refusal) => Batched::Refused(refusal, 0),
     }
 }

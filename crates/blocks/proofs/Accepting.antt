@@ -1,5 +1,6 @@
 -- What accepted bytes are: whole blocks, every check, every form, and an accepted table with its
 -- coefficients. And back: bytes that are all that are accepted. Assumes nothing.
+use Rattle.std.specs.Prelude.{Ok}
 use mathlib.Core.Path.{◌≡◌, ◌∙◌, ap, subst}
 use mathlib.Core.Bool.{true}
 use mathlib.Core.List.{List}
@@ -24,9 +25,9 @@ use Rattle.image.proofs.Bounding.{bounds_told, bounds_is}
 use Rattle.granules.specs.Tests.{granule_tests}
 use Rattle.granules.specs.Accepted as table
 use Rattle.granules.proofs.Accepting.{passed_accepted, accepted_passes}
-use Rattle.blocks.specs.declared.answer.Judged.TheVariants.{Accepted}
 use Rattle.blocks.specs.Answers.{judged_refused}
-use Rattle.blocks.specs.Judging.{judged_by, is_whole, is_formed_in, block_tests, table_tests, judged}
+use Rattle.blocks.specs.Judging.{judged_by, is_whole, is_formed_in, block_tests, table_tests}
+use Rattle.blocks.specs.Judging.{judged}
 use Rattle.blocks.proofs.Past.{whole_told}
 use Rattle.blocks.proofs.Telling.{same_accepted, all_passed}
 
@@ -78,26 +79,26 @@ module _ (b : List ℕ) (t : Table) where
       (accepted_passes t (stored_for b t) (granule_stored b t.degree) (granule_same b t.count t.degree) s.accepted)
 
 -- ---- accepted bytes
-pub accepted_table : (b : List ℕ) (t : Table) → judged b ≡ Accepted t → table_of b ≡ t
+pub accepted_table : (b : List ℕ) (t : Table) → judged b ≡ Ok t → table_of b ≡ t
 unfolding judged
 accepted_table b t e = same_accepted (table_tests b (table_of b)) (table_of b) t e
 
-pub accepted_sound : (b : List ℕ) (t : Table) → judged b ≡ Accepted t → Sound b t
+pub accepted_sound : (b : List ℕ) (t : Table) → judged b ≡ Ok t → Sound b t
 unfolding judged
 accepted_sound b t e =
     subst (Sound b) (accepted_table b t e) (passed_sound b (table_of b) (all_passed (table_tests b (table_of b)) (table_of b) t e))
 
-pub sound_accepted : (b : List ℕ) (t : Table) → table_of b ≡ t → Sound b t → judged b ≡ Accepted t
+pub sound_accepted : (b : List ℕ) (t : Table) → table_of b ≡ t → Sound b t → judged b ≡ Ok t
 unfolding judged
 sound_accepted b t e s =
-    ap (λ (u : Table). judged_by (table_tests b u) u) e ∙ all_none judged_refused (Accepted t) (table_tests b t) (sound_passed b t s)
+    ap (λ (u : Table). judged_by (table_tests b u) u) e ∙ all_none judged_refused (Ok t) (table_tests b t) (sound_passed b t s)
 
 -- what judging accepted is such a table, with the coefficients taken out granule by granule
-pub accepted_of : (b : List ℕ) (t : Table) → judged b ≡ Accepted t → table.Accepted t (stored_for b t)
+pub accepted_of : (b : List ℕ) (t : Table) → judged b ≡ Ok t → table.Accepted t (stored_for b t)
 accepted_of b t e = (accepted_sound b t e).accepted
 
 -- and the bytes are its blocks
-pub accepted_blocks : (b : List ℕ) (t : Table) → judged b ≡ Accepted t → length b ≡ blocks_of t.count * 512
+pub accepted_blocks : (b : List ℕ) (t : Table) → judged b ≡ Ok t → length b ≡ blocks_of t.count * 512
 accepted_blocks b t e =
     let s = accepted_sound b t e in
     (whole_told (length b) s.whole).blocks ∙ ap (λ (k : ℕ). k * 512) s.blocks

@@ -1,5 +1,6 @@
 -- Table bytes, one equation for each test passed: what is judged is what the tests left judge.
 -- Assumes nothing.
+use Rattle.std.specs.Prelude.{Ok}
 use mathlib.Core.Path.{◌≡◌, refl, sym, ◌∙◌, subst}
 use mathlib.Core.Bool.{Bool, true, false, ◌&&◌}
 use mathlib.Core.List.{List, ◌∷◌}
@@ -22,7 +23,6 @@ use Rattle.image.specs.Bounds.{is_bounded, Bounded}
 use Rattle.image.specs.Image.{granule_stored, table_of}
 use Rattle.image.specs.declared.table.Table.{Table}
 use Rattle.granules.specs.Tests.{granule_tests}
-use Rattle.blocks.specs.declared.answer.Judged.TheVariants.{Accepted}
 use Rattle.blocks.specs.Answers.{judged_refused}
 use Rattle.blocks.specs.Judging.{judged_by, is_whole, is_formed_in, table_tests, judged}
 
@@ -81,48 +81,48 @@ module _ (b : List ℕ) (t : Table) where
   Is number place = judged_refused number place ≡ judged_by (table_tests b t) t
 
   pub refused10 : is_whole (length b) ≡ false → Is 10 0
-  refused10 e = stop judged_refused (Accepted t) 10 (is_whole (length b)) (from11 b t) e
+  refused10 e = stop judged_refused (Ok t) 10 (is_whole (length b)) (from11 b t) e
 
   pub past10 : is_whole (length b) ≡ true → By (from11 b t)
-  past10 e = go judged_refused (Accepted t) 10 (is_whole (length b)) (from11 b t) e
+  past10 e = go judged_refused (Ok t) 10 (is_whole (length b)) (from11 b t) e
 
   module _ (p : By (from11 b t)) (r : ℕ) (e : r ≡ lowest (λ k. is_checked (block b k)) (length b / 512)) where
     pub refused11 : r < length b / 512 → Is 11 r
-    refused11 h = stops judged_refused (Accepted t) 11 (length b / 512) (λ k. is_checked (block b k)) (from_first b t) r e h ∙ sym p
+    refused11 h = stops judged_refused (Ok t) 11 (length b / 512) (λ k. is_checked (block b k)) (from_first b t) r e h ∙ sym p
 
     pub past11 : length b / 512 ≤ r → By (from_first b t)
-    past11 h = p ∙ goes judged_refused (Accepted t) 11 (length b / 512) (λ k. is_checked (block b k)) (from_first b t) r e h
+    past11 h = p ∙ goes judged_refused (Ok t) 11 (length b / 512) (λ k. is_checked (block b k)) (from_first b t) r e h
 
   module _ (p : By (from_first b t)) where
     same_form : {v : Bool} → is_formed 0 0 0 (block b 0) ≡ v → is_formed_in t b 0 ≡ v
     same_form e = sym (first_form t.count t.degree (block b 0)) ∙ e
 
     pub refused12_first : is_formed 0 0 0 (block b 0) ≡ false → Is 12 0
-    refused12_first e = stop judged_refused (Accepted t) 12 (is_formed_in t b 0) (from13 b t) (same_form e) ∙ sym p
+    refused12_first e = stop judged_refused (Ok t) 12 (is_formed_in t b 0) (from13 b t) (same_form e) ∙ sym p
 
     pub past_first : is_formed 0 0 0 (block b 0) ≡ true → By (from13 b t)
-    past_first e = p ∙ go judged_refused (Accepted t) 12 (is_formed_in t b 0) (from13 b t) (same_form e)
+    past_first e = p ∙ go judged_refused (Ok t) 12 (is_formed_in t b 0) (from13 b t) (same_form e)
 
   module _ (p : By (from13 b t)) where
     pub refused13_bound : is_bounded t ≡ false → Is 13 0
-    refused13_bound e = stop judged_refused (Accepted t) 13 (is_right13 b t) (from12 b t) (rw e) ∙ sym p
+    refused13_bound e = stop judged_refused (Ok t) 13 (is_right13 b t) (from12 b t) (rw e) ∙ sym p
 
     pub refused13_blocks : is_bounded t ≡ true → (length b / 512 ≡ blocks_of t.count → ⊥) → Is 13 0
     refused13_blocks e n =
-        stop judged_refused (Accepted t) 13 (is_right13 b t) (from12 b t) (rw (e, ne_eqb (length b / 512) (blocks_of t.count) n))
+        stop judged_refused (Ok t) 13 (is_right13 b t) (from12 b t) (rw (e, ne_eqb (length b / 512) (blocks_of t.count) n))
         ∙ sym p
 
     pub past13 : is_bounded t ≡ true → length b / 512 ≡ blocks_of t.count → By (from12 b t)
     past13 e d =
         p
-        ∙ go judged_refused (Accepted t) 13 (is_right13 b t) (from12 b t) (rw (e, eq-eqb (length b / 512) (blocks_of t.count) d))
+        ∙ go judged_refused (Ok t) 13 (is_right13 b t) (from12 b t) (rw (e, eq-eqb (length b / 512) (blocks_of t.count) d))
 
   module _ (p : By (from12 b t)) (r : ℕ) (e : r ≡ lowest (is_formed_in t b) (length b / 512)) where
     pub refused12 : r < length b / 512 → Is 12 r
-    refused12 h = stops judged_refused (Accepted t) 12 (length b / 512) (is_formed_in t b) (from14 b t) r e h ∙ sym p
+    refused12 h = stops judged_refused (Ok t) 12 (length b / 512) (is_formed_in t b) (from14 b t) r e h ∙ sym p
 
     pub past12 : length b / 512 ≤ r → By (from14 b t)
-    past12 h = p ∙ goes judged_refused (Accepted t) 12 (length b / 512) (is_formed_in t b) (from14 b t) r e h
+    past12 h = p ∙ goes judged_refused (Ok t) 12 (length b / 512) (is_formed_in t b) (from14 b t) r e h
 
 -- a search that has found no block not formed
 pub formed12 : (b : List ℕ) (t : Table) (r : ℕ) → r ≡ lowest (is_formed_in t b) (length b / 512) → length b / 512 ≤ r

@@ -1,5 +1,6 @@
 -- 'Reading what was written gives the same numbers, and an accepted block image written again gives
 -- the same bytes.' Assumes nothing.
+use Rattle.std.specs.Prelude.{Ok}
 use mathlib.Core.Path.{◌≡◌, refl, sym, ◌∙◌, ap, subst}
 use mathlib.Core.List.{List}
 use Prim.Native.Nat.{ℕ, ◌+◌, ◌*◌, ◌/◌, ◌%◌, ◌≤◌, ◌<◌}
@@ -22,18 +23,20 @@ use Rattle.form.specs.Few.{most_granules}
 use Rattle.form.specs.Form.{blocks_of}
 use Rattle.image.specs.Image.{how_many, table_of, granule_in, image_of}
 use Rattle.image.specs.declared.table.Table.{Table}
-use Rattle.image.proofs.Back.{IsImage, image_is, Fitted, table_back, coefficients_back, check_back, form_back, granule_at_lem}
+use Rattle.image.proofs.Back.{IsImage, image_is, Fitted, table_back, coefficients_back, check_back}
+use Rattle.image.proofs.Back.{form_back, granule_at_lem}
 use Rattle.image.proofs.Again.{HoldsTable, same_image}
 use Rattle.image.proofs.Bounding.{bounds_told, bounds_is, at_most}
 use Rattle.granules.specs.Tests.{granule_tests}
 use Rattle.granules.specs.Accepted as table
 use Rattle.granules.proofs.Accepting.{passed_accepted, accepted_passes, accepted_small}
-use Rattle.blocks.specs.declared.answer.Judged.TheVariants.{Accepted}
 use Rattle.blocks.specs.Answers.{judged_refused}
-use Rattle.blocks.specs.Judging.{is_whole, judged, read_judged, read_into, size_tests, write_tests, write_judged, write_into}
+use Rattle.blocks.specs.Judging.{is_whole, judged, read_judged, read_into, size_tests, write_tests}
+use Rattle.blocks.specs.Judging.{write_judged, write_into}
 use Rattle.blocks.proofs.Telling.{all_passed}
 use Rattle.blocks.proofs.Past.{whole_is}
-use Rattle.blocks.proofs.Accepting.{stored_for, Sound, accepted_table, accepted_sound, sound_accepted, accepted_of, accepted_blocks}
+use Rattle.blocks.proofs.Accepting.{stored_for, Sound, accepted_table, accepted_sound}
+use Rattle.blocks.proofs.Accepting.{sound_accepted, accepted_of, accepted_blocks}
 use Rattle.blocks.proofs.Taking.{is_new, read_accepted}
 
 -- ---- what writing has tested
@@ -41,7 +44,7 @@ record Written (t : Table) (c : List ℤ) (many : ℕ) : Type 0 where
   size : many ≡ blocks_of t.count * 512
   accepted : table.Accepted t c
 
-written_told : (t u : Table) (c : List ℤ) (many : ℕ) → write_judged t c many ≡ Accepted u → Written t c many
+written_told : (t u : Table) (c : List ℤ) (many : ℕ) → write_judged t c many ≡ Ok u → Written t c many
 unfolding write_judged
 written_told t u c many e =
     let tests = granule_tests t (granule_in c t.degree) in
@@ -112,24 +115,24 @@ module _ (t : Table) (c : List ℤ) (a : table.Accepted t c) where
       many G h = omega arith
 
 -- a table that is written
-module _ (t u : Table) (c : List ℤ) (many : ℕ) (e : write_judged t c many ≡ Accepted u) where
+module _ (t u : Table) (c : List ℤ) (many : ℕ) (e : write_judged t c many ≡ Ok u) where
   written : table.Accepted t c
   written = (written_told t u c many e).accepted
 
   -- its bytes are accepted
-  pub image_accepted : judged (image_of t c) ≡ Accepted t
+  pub image_accepted : judged (image_of t c) ≡ Ok t
   image_accepted = sound_accepted (image_of t c) t (table_same t c written) (image_sound t c written)
 
   -- and reading gives the same numbers and the same coefficients, into any list of their number
   pub image_read : (d : List ℤ) → length d ≡ length c
-      → (read_judged (image_of t c) (length d) ≡ Accepted t) × (read_into (image_of t c) d ≡ c)
+      → (read_judged (image_of t c) (length d) ≡ Ok t) × (read_into (image_of t c) d ≡ c)
   unfolding read_into
   image_read d l =
       let r = read_accepted (image_of t c) d t image_accepted (l ∙ written.whole) in
       (r, is_new _ t _ d r ∙ ap (stored_for (image_of t c)) (table_same t c written) ∙ coefficients_same t c written)
 
 -- ---- an accepted image, written again, gives the same bytes
-module _ (b : List ℕ) (t : Table) (small : (i : ℕ) → get_or b i 0 < 256) (e : judged b ≡ Accepted t) where
+module _ (b : List ℕ) (t : Table) (small : (i : ℕ) → get_or b i 0 < 256) (e : judged b ≡ Ok t) where
   sound : Sound b t
   sound = accepted_sound b t e
 
@@ -146,19 +149,19 @@ module _ (b : List ℕ) (t : Table) (small : (i : ℕ) → get_or b i 0 < 256) (
   again_same : image_of t (stored_for b t) ≡ b
   again_same = same_image b t holds
 
-  again_accepted : write_judged t (stored_for b t) (length b) ≡ Accepted t
+  again_accepted : write_judged t (stored_for b t) (length b) ≡ Ok t
   unfolding write_judged
   again_accepted =
       let c = stored_for b t in
       let a = accepted_of b t e in
-      all_none judged_refused (Accepted t) (write_tests t c (length b))
+      all_none judged_refused (Ok t) (write_tests t c (length b))
       (pass_join (size_tests t c (length b)) (granule_tests t (granule_in c t.degree))
       (single_is 8 _ (rw (eq-eqb _ _ a.whole, eq-eqb _ _ (accepted_blocks b t e))), (single_is 13 _ (bounds_is t a.bounds), tt))
       (accepted_passes t c (granule_in c t.degree) (λ g h. refl) a))
 
   -- into any buffer of its size
   pub image_again : (image : List ℕ) → length image ≡ length b
-      → (write_judged t (stored_for b t) (length image) ≡ Accepted t) × (write_into t (stored_for b t) image ≡ b)
+      → (write_judged t (stored_for b t) (length image) ≡ Ok t) × (write_into t (stored_for b t) image ≡ b)
   unfolding write_into
   image_again image l =
       let a = ap (write_judged t (stored_for b t)) l ∙ again_accepted in

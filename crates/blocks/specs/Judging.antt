@@ -1,7 +1,8 @@
 -- The tests of a table in their order, judging, reading and writing: 'the table 10 to 16 .., each
 -- test over all blocks before the next (12 for block 0, 13, then 12 for the others)'.
-use Rattle.std.specs.Prelude.{◌≡◌, Bool, ◌&&◌, List, [], ◌∷◌, ◌++◌, ℕ, ◌*◌, ◌/◌, ◌%◌, eqb, leb, ℤ}
-use Rattle.std.specs.Prelude.{length}
+use Rattle.blocks.specs.Answers.{Judged, judged_refused}
+use Rattle.std.specs.Prelude.{Err, Ok, ◌≡◌, Bool, ◌&&◌, List, [], ◌∷◌, ◌++◌, ℕ, ◌*◌, ◌/◌, ◌%◌, eqb}
+use Rattle.std.specs.Prelude.{leb, ℤ, length}
 use Rattle.numbers.specs.Tests.{Test, test, single, verdict}
 use Rattle.linear.specs.declared.steps.Tt.{Tt}
 use Rattle.words.specs.Words.{block, most_blocks}
@@ -9,16 +10,13 @@ use Rattle.words.specs.Check.{is_checked}
 use Rattle.form.specs.Form.{blocks_of, is_formed}
 use Rattle.image.specs.declared.table.Table.{Table}
 use Rattle.image.specs.Bounds.{is_bounded}
-use Rattle.image.specs.Image.{how_many, table_of, granule_in, granule_stored}
-use Rattle.image.specs.Image.{coefficients_stored, image_of}
+use Rattle.image.specs.Image.{how_many, table_of, granule_in, granule_stored, coefficients_stored}
+use Rattle.image.specs.Image.{image_of}
 use Rattle.granules.specs.Tests.{granule_tests}
-use Rattle.blocks.specs.declared.answer.Judged.{Judged}
-use Rattle.blocks.specs.declared.answer.Judged.TheVariants.{Accepted, Refused}
-use Rattle.blocks.specs.Answers.{judged_refused}
 
 -- the first refusal of a list of tests, or the table's numbers
 abbrev pub judged_by : List Test → Table → Judged
-judged_by tests t = verdict judged_refused (Accepted t) tests
+judged_by tests t = verdict judged_refused (Ok t) tests
 
 -- 10: 'bytes [are] 2 to 121 whole blocks'
 unfoldable pub is_whole : ℕ → Bool
@@ -47,8 +45,8 @@ judged b = judged_by (table_tests b (table_of b)) (table_of b)
 
 -- a lent list, which stays as it was on a refusal
 abbrev pub judged_left : {A : Type 0} → Judged → List A → List A → List A
-judged_left (Accepted t) new old = new
-judged_left (Refused r) new old = old
+judged_left (Ok t) new old = new
+judged_left (Err r) new old = old
 
 -- ---- reading into a list of so many: 'there 8 comes after the table's own numbers'
 abbrev pub read_tests : List ℕ → Table → ℕ → List Test

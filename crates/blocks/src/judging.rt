@@ -2,12 +2,12 @@
 ghost use Rattle.std.specs.Prelude.{◌≡◌};
 ghost use Rattle.blocks.specs.Judging.{is_whole, judged};
 
-use crate::answer::Judged;
-use crate::told::{refused, tested};
+use crate::told::refused;
 use form::lowest_unformed;
 use granules::test_stored;
 use image::bounds::bounded;
-use image::table::table_of;
+use image::table::{Table, table_of};
+use scales::refusal::Refusal;
 use words::check::lowest_unchecked;
 
 // Whether so many bytes are '2 to 121 whole blocks'.
@@ -23,7 +23,7 @@ fn whole(length: usize) -> bool
 // The table's numbers, or the first of refusals 10, 11, 12 (block 0), 13, 12 (others), 14, 15, 16,
 // 'each test over all blocks before the next'.
 #[tactic(auto, using(crate::proofs::Past::unformed_first))]
-pub fn judge(bytes: &[u8]) -> Judged
+pub fn judge(bytes: &[u8]) -> Result<Table, Refusal>
     ensures { result ≡ judged bytes.now }
 {
     let length = bytes.len();
@@ -51,5 +51,6 @@ pub fn judge(bytes: &[u8]) -> Judged
     if unformed < blocks {
         return refused(12, unformed);
     }
-    tested(table, test_stored(bytes, table))
+    test_stored(bytes, table)?;
+    Ok(table)
 }

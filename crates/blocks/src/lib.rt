@@ -4,7 +4,6 @@
 // tests.
 #![tactic(auto)]
 
-pub mod answer;
 pub mod judging;
 pub mod reading;
 mod told;

@@ -1,13 +1,13 @@
 // Writing a table as blocks.
 ghost use Rattle.blocks.specs.Judging.{table_from, Wrote};
 
-use crate::answer::Judged;
 use crate::told::refused;
-use granules::{Tested, test_listed};
+use granules::test_listed;
 use image::bounds::bounded;
 use image::put::put_image;
 use image::table::Table;
 use linear::steps::Tt;
+use scales::refusal::Refusal;
 
 // 'Writing takes the table's numbers, among them G·(n+1) coefficients granule by granule, and a
 // buffer of exactly the size needed. Writing refuses with 13 to 16 as reading does, after 8; the
@@ -20,7 +20,7 @@ pub fn write(
     degree: u32,
     coefficients: &[i64],
     image: &mut [u8],
-) -> Judged
+) -> Result<Table, Refusal>
     ensures { Wrote (table_from start length count degree) coefficients.now
         image.old image.new result }
 {
@@ -41,11 +41,7 @@ pub fn write(
     if !bounded(table) {
         return refused(13, 0);
     }
-    match test_listed(coefficients, table) {
-        Tested::Refused(refusal) => Judged::Refused(refusal),
-        Tested::Passed => {
-            put_image(image, table, coefficients);
-            Judged::Accepted(table)
-        }
-    }
+    test_listed(coefficients, table)?;
+    put_image(image, table, coefficients);
+    Ok(table)
 }

@@ -1,4 +1,7 @@
 -- The answer of comparing: a refusal of either table, 20, 8, or the list. Assumes nothing.
+use Rattle.comparing.specs.Answers.{Compared, refused_of, compared_refused}
+use Rattle.blocks.specs.Answers.{Judged, judged_refused}
+use Rattle.std.specs.Prelude.{Err, Ok}
 use borrow.Author.Tests.{eqb-true}
 use mathlib.Core.Path.{◌≡◌, sym, ◌∙◌, ap}
 use mathlib.Core.Bool.{true, false, ◌&&◌}
@@ -14,37 +17,32 @@ use Rattle.numbers.proofs.Verdicts.{stop, go, verdict_map}
 use Rattle.scales.specs.declared.refusal.Refusal.{Refusal}
 use Rattle.image.specs.declared.table.Table.{Table}
 use Rattle.image.specs.Image.{table_of, granule_stored}
-use Rattle.blocks.specs.declared.answer.Judged.{Judged}
-use Rattle.blocks.specs.declared.answer.Judged.TheVariants as J
-use Rattle.blocks.specs.Answers.{judged_refused}
 use Rattle.blocks.specs.Judging.{judged, table_tests}
 use Rattle.blocks.proofs.Accepting.{accepted_table, accepted_of}
-use Rattle.comparing.specs.declared.Compared.{Compared}
-use Rattle.comparing.specs.declared.Compared.TheVariants.{Changes, Refused}
-use Rattle.comparing.specs.Answers.{compared_refused}
 use Rattle.comparing.specs.Asked.{BothAccepted, Pairs, HasPut}
 use Rattle.comparing.specs.Changes.{Entry, changes_to}
-use Rattle.comparing.specs.Comparing.{changes_of, is_alike, compared_of, compared_into, list_put, HasCompared}
+use Rattle.comparing.specs.Comparing.{changes_of, is_alike, compared_of, compared_into, list_put}
+use Rattle.comparing.specs.Comparing.{HasCompared}
 use Rattle.comparing.proofs.Reading.{readable}
 
 -- ---- in turn: a table's own refusal, or what is left
 abbrev compared_by : ℕ → Judged → Compared → Compared
-compared_by which (J.Accepted t) rest = rest
-compared_by which (J.Refused refusal) rest = Refused refusal which
+compared_by which (Ok t) rest = rest
+compared_by which (Err refusal) rest = refused_of refusal which
 
 by_judged : (b : List ℕ) (which : ℕ) (rest : Compared)
     → verdict (λ number place. compared_refused number place which) rest (table_tests b (table_of b))
     ≡ compared_by which (judged b) rest
 unfolding judged
 by_judged b which rest =
-    sym (verdict_map (λ judgement. compared_by which judgement rest) judged_refused (J.Accepted (table_of b)) (table_tests b (table_of b)))
+    sym (verdict_map (λ judgement. compared_by which judgement rest) judged_refused (Ok (table_of b)) (table_tests b (table_of b)))
 
 -- 8, and before it 20, which are of both
 abbrev refusing : ℕ → ℕ → Compared
 refusing number place = compared_refused number place 0
 
 abbrev length_told : List ℕ → List ℕ → Compared
-length_told first second = Changes (length (changes_of first second))
+length_told first second = Ok (length (changes_of first second))
 
 abbrev from8 : List ℕ → List ℕ → ℕ → List Test
 from8 first second many = single 8 (leb (3 * length (changes_of first second)) many) ∷ []
@@ -62,24 +60,24 @@ in_turn first second many =
 
 -- ---- what is left of the lent list
 module _ (first second : List ℕ) (entries : List ℤ) where
-  refused_left : (refusal : Refusal) (which : ℕ) → Refused refusal which ≡ compared_of first second (length entries)
-      → HasCompared first second entries entries (Refused refusal which)
+  refused_left : (refusal : Refusal) (which : ℕ) → refused_of refusal which ≡ compared_of first second (length entries)
+      → HasCompared first second entries entries (refused_of refusal which)
   unfolding compared_into
   refused_left refusal which e = record { answer = e; list = rw (← e) }
 
-  listed_left : Changes (length (changes_of first second)) ≡ compared_of first second (length entries)
+  listed_left : Ok (length (changes_of first second)) ≡ compared_of first second (length entries)
       → HasCompared first second entries (list_put (changes_of first second) entries)
-      (Changes (length (changes_of first second)))
+      (Ok (length (changes_of first second)))
   unfolding compared_into
   listed_left e = record { answer = e; list = rw (← e) }
 
   -- ---- the refusal of the first table, and of the second
-  pub first_refused : (refusal : Refusal) → judged first ≡ J.Refused refusal
-      → HasCompared first second entries entries (Refused refusal 0)
+  pub first_refused : (refusal : Refusal) → judged first ≡ Err refusal
+      → HasCompared first second entries entries (refused_of refusal 0)
   first_refused refusal e = refused_left refusal 0 (sym (in_turn first second (length entries) ∙ rw e))
 
-  pub second_refused : (t : Table) (refusal : Refusal) → judged first ≡ J.Accepted t → judged second ≡ J.Refused refusal
-      → HasCompared first second entries entries (Refused refusal 1)
+  pub second_refused : (t : Table) (refusal : Refusal) → judged first ≡ Ok t → judged second ≡ Err refusal
+      → HasCompared first second entries entries (refused_of refusal 1)
   second_refused t refusal a e = refused_left refusal 1 (sym (in_turn first second (length entries) ∙ rw (a, e)))
 
 -- ---- two tables that were accepted
@@ -140,7 +138,7 @@ module _ (first second : List ℕ) (t u : Table) (accepted : BothAccepted first 
           (stop refusing (length_told first second) 8 _ [] (fits_all ∙ h) ∙ sym past20)
 
       pub put_all : leb (3 * length changes_found) many ≡ true → (n : ℕ) (list : List ℤ)
-          → HasPut changes_found entries list n → HasCompared first second entries list (Changes n)
+          → HasPut changes_found entries list n → HasCompared first second entries list (Ok n)
       unfolding verdict
       put_all h n list put =
           let past8 = go refusing (length_told first second) 8 _ [] (fits_all ∙ h) in

@@ -13,7 +13,8 @@ use Rattle.numbers.specs.Signs.{gap}
 use Rattle.numbers.proofs.Order.{size-*, size-+}
 use Rattle.granule.specs.Rule.{exact_at}
 use Rattle.comparing.specs.Changes.{longer, sum_to, sum_of}
-use Rattle.comparing.proofs.Series.{chebyshev, chebyshev_bound, series, series_nil, series_cons, series_minus, at_is}
+use Rattle.comparing.proofs.Series.{chebyshev, chebyshev_bound, series, series_nil, series_cons}
+use Rattle.comparing.proofs.Series.{series_minus, at_is}
 use Rattle.comparing.proofs.Sums.{sum_front}
 
 -- H·|sum| ≤ H^(k+n)·(sum of the sizes): the powers of H are those of the term at E_k, and one more

@@ -11,14 +11,16 @@ use native.Mathlib.Omega.{arith}
 use lib.ListN.{length, get_or, get_or-eq_default}
 use lib.IntN.{ℤ, pos, ◌+ℤ◌, ◌-ℤ◌, ◌*ℤ◌, nat_abs}
 use Rattle.numbers.proofs.Chebyshev.{pow_above}
-use Rattle.numbers.proofs.Degrees.{difference, difference_same, difference_line, difference_none, lead, lead_above}
+use Rattle.numbers.proofs.Degrees.{difference, difference_same, difference_line, difference_none}
+use Rattle.numbers.proofs.Degrees.{lead, lead_above}
 use Rattle.numbers.proofs.Differences.{rep, rep₂, lin}
 use Rattle.numbers.proofs.Order.{abs-*, le_or_lt}
 use Rattle.numbers.proofs.Solver.{ring, quote, q_con, all₂, all₃}
 use Rattle.granule.specs.Bounds.{most_degree, shortest_length}
 use Rattle.granule.specs.Rule.{exact_at}
 use Rattle.comparing.specs.Same.{SameCoefficients, SameSums}
-use Rattle.comparing.proofs.Series.{chebyshev, chebyshev_degree, series, series_cons, series_none, series_same, series_minus, at_is}
+use Rattle.comparing.proofs.Series.{chebyshev, chebyshev_degree, series, series_cons, series_none}
+use Rattle.comparing.proofs.Series.{series_same, series_minus, at_is}
 
 -- ---- the coefficients, from the differences of the sum at the first place: the later ones first
 vanished : (x : ℤ) (n : ℕ) → 0 < n → x *ℤ pos n ≡ pos 0 → x ≡ pos 0

@@ -1,5 +1,6 @@
 -- The coefficients of a granule where they lie, and what an accepted table says of them. Assumes
 -- nothing.
+use Rattle.std.specs.Prelude.{Ok}
 use mathlib.Core.Path.{◌≡◌, sym, ◌∙◌, ap}
 use mathlib.Core.Bool.{true}
 use mathlib.Core.List.{List}
@@ -16,7 +17,6 @@ use Rattle.image.specs.Image.{coefficient_at, granule_stored}
 use Rattle.image.proofs.Back.{granule_same}
 use Rattle.image.proofs.Slots.{stored_room}
 use Rattle.granules.proofs.Accepting.{accepted_small}
-use Rattle.blocks.specs.declared.answer.Judged.TheVariants.{Accepted}
 use Rattle.blocks.specs.Judging.{judged}
 use Rattle.blocks.proofs.Accepting.{stored_for, accepted_of, accepted_blocks}
 use Rattle.comparing.specs.declared.differing.Change.{Change}
@@ -38,7 +38,7 @@ module _ (b : List ℕ) (n g : ℕ) where
   coefficient_missing k h = sym (get_or-eq_default (granule_stored b n g) (pos 0) {n = k} (omega (arith, granule_length)))
 
 -- ---- an accepted table
-module _ (b : List ℕ) (t : Table) (accepted : judged b ≡ Accepted t) (g : ℕ) (h : g < t.count) where
+module _ (b : List ℕ) (t : Table) (accepted : judged b ≡ Ok t) (g : ℕ) (h : g < t.count) where
   granule_small : is_small (granule_stored b t.degree g) ≡ true
   granule_small =
       ap is_small (granule_same b t.count t.degree g h) ∙ accepted_small t (stored_for b t) (accepted_of b t accepted) g h

@@ -15,7 +15,8 @@ use Rattle.numbers.specs.Lowest.{every}
 use Rattle.numbers.proofs.Flags.{never}
 use Rattle.numbers.proofs.Order.{gap_none, none_gap, gap_turned, le_or_lt}
 use Rattle.numbers.proofs.Places.{every_is, every_at}
-use Rattle.comparing.specs.Changes.{difference_at, longer, differs, largest_to, sum_to, largest_of, sum_of}
+use Rattle.comparing.specs.Changes.{difference_at, longer, differs, largest_to, sum_to, largest_of}
+use Rattle.comparing.specs.Changes.{sum_of}
 use Rattle.comparing.specs.Same.{SameCoefficients}
 
 -- ---- the largest and the sum of f 0, .. f (n − 1)

@@ -1,4 +1,5 @@
 -- The other way round: two accepted tables give the same answer and the same list. Assumes nothing.
+use Rattle.comparing.specs.Answers.{Compared}
 use borrow.Author.Tests.{eq-eqb, ne_eqb, eqb-true, eqb-false}
 use mathlib.Core.Path.{◌≡◌, refl, sym, ◌∙◌, ap}
 use mathlib.Core.Bool.{Bool, true, false}
@@ -10,7 +11,6 @@ use lib.ListN.{length}
 use Rattle.numbers.proofs.Order.{gap_turned}
 use Rattle.image.specs.declared.table.Table.{Table}
 use Rattle.image.specs.Image.{granule_stored}
-use Rattle.comparing.specs.declared.Compared.{Compared}
 use Rattle.comparing.specs.Asked.{BothAccepted, HasPut}
 use Rattle.comparing.specs.Changes.{Entry, changes_to}
 use Rattle.comparing.specs.Comparing.{is_alike, compared_of, compared_into, list_put, HasCompared}

@@ -1,12 +1,12 @@
 -- What the inner functions ask of their callers, and what they give and leave.
-use Rattle.std.specs.Prelude.{◌≡◌, true, List, ℕ, ◌+◌, ◌*◌, ◌≤◌, ◌<◌, ℤ, pos, nat_abs, length, set}
+use Rattle.std.specs.Prelude.{Ok, ◌≡◌, true, List, ℕ, ◌+◌, ◌*◌, ◌≤◌, ◌<◌, ℤ, pos, nat_abs, length}
+use Rattle.std.specs.Prelude.{set}
 use Rattle.granule.specs.Bounds.{most_degree}
 use Rattle.granule.specs.Tests.{largest, is_small}
 use Rattle.form.specs.Few.{most_granules}
 use Rattle.image.specs.Asked.{Stored}
 use Rattle.image.specs.Image.{granule_stored}
 use Rattle.image.specs.declared.table.Table.{Table}
-use Rattle.blocks.specs.declared.answer.Judged.TheVariants.{Accepted}
 use Rattle.blocks.specs.Judging.{judged}
 use Rattle.comparing.specs.declared.differing.Change.{Change}
 use Rattle.comparing.specs.Changes.{Entry, largest_of, sum_of, changes_to}
@@ -15,8 +15,8 @@ use Rattle.comparing.specs.Comparing.{list_put}
 -- ---- what is asked
 -- two tables that were judged and accepted
 pub record BothAccepted (b : List ℕ) (t : Table) (d : List ℕ) (u : Table) : Type 0 where
-  pub first : judged b ≡ Accepted t
-  pub second : judged d ≡ Accepted u
+  pub first : judged b ≡ Ok t
+  pub second : judged d ≡ Ok u
 
 -- two coefficients that test 14 has let pass
 pub record BothSmall (c d : ℤ) : Type 0 where

@@ -1,15 +1,13 @@
 -- 'Take two block images with equal S, H and G and list each granule that differs': the whole rule,
 -- and what it leaves of the lent list.
-use Rattle.std.specs.Prelude.{◌≡◌, Bool, ◌&&◌, List, [], ◌∷◌, ◌++◌, ℕ, ◌*◌, eqb, leb, ℤ, length}
+use Rattle.comparing.specs.Answers.{Compared, compared_refused, compared_left}
+use Rattle.std.specs.Prelude.{Ok, ◌≡◌, Bool, ◌&&◌, List, [], ◌∷◌, ◌++◌, ℕ, ◌*◌, eqb, leb, ℤ, length}
 use Rattle.std.specs.Prelude.{drop}
 use Rattle.numbers.specs.Signs.{gap}
 use Rattle.numbers.specs.Tests.{Test, single, verdicts}
 use Rattle.image.specs.declared.table.Table.{Table}
 use Rattle.image.specs.Image.{table_of, granule_stored}
 use Rattle.blocks.specs.Judging.{table_tests}
-use Rattle.comparing.specs.declared.Compared.{Compared}
-use Rattle.comparing.specs.declared.Compared.TheVariants.{Changes}
-use Rattle.comparing.specs.Answers.{compared_refused, compared_left}
 use Rattle.comparing.specs.Changes.{Entry, changes_to, flat}
 
 -- the granules that bytes hold
@@ -44,7 +42,7 @@ compare_tests first second many =
 -- 'its length is returned'
 unfoldable pub compared_of : List ℕ → List ℕ → ℕ → Compared
 compared_of first second many =
-    verdicts compared_refused (Changes (length (changes_of first second)))
+    verdicts compared_refused (Ok (length (changes_of first second)))
     (compare_tests first second many)
 
 -- 'The list goes to the front of a lent buffer, all or nothing, .. and the rest of the buffer

@@ -12,24 +12,25 @@ ghost use Rattle.comparing.specs.Comparing.{is_alike, HasCompared};
 ghost use Rattle.comparing.specs.Asked.{BothAccepted};
 
 use crate::listing::{has_room, put_changes};
-use blocks::answer::Judged;
 use blocks::judging::judge;
 use image::table::Table;
 use scales::refusal::Refusal;
 
-// How many granules differ; or the refusal and which table got it, 0 the first and 1 the second, 0
-// where it is of both.
-#[derive(Clone, Copy)]
-pub enum Compared {
-    Changes(u64),
-    Refused(Refusal, u32),
+// A refusal and which table got it, 0 the first and 1 the second, 0 where it is of both.
+#[derive(Clone, Copy, Debug, PartialEq, Eq)]
+pub struct RefusedOf {
+    pub refusal: Refusal,
+    pub which: u32,
 }
 
 // A refusal of both tables, which has no place.
-fn refused(number: u32) -> Compared
+fn refused(number: u32) -> Result<u64, RefusedOf>
     ensures { result ≡ compared_refused number 0 0 }
 {
-    Compared::Refused(Refusal { number, place: 0 }, 0)
+    Err(RefusedOf {
+        refusal: Refusal { number, place: 0 },
+        which: 0,
+    })
 }
 
 // 20: whether two tables have 'equal S, H and G'.
@@ -54,7 +55,7 @@ fn compare_accepted(
     second: &[u8],
     other: Table,
     entries: &mut [i64],
-) -> Compared
+) -> Result<u64, RefusedOf>
     requires { BothAccepted first.now table second.now other }
     ensures { HasCompared first.now second.now entries.old
         entries.new result }
@@ -69,22 +70,18 @@ fn compare_accepted(
         return refused(8);
     }
     let changes = put_changes(first, degree, second, other_degree, count, entries);
-    Compared::Changes(changes as u64)
+    Ok(changes as u64)
 }
 
 // What changed from the first table to the second, 'An entry is three whole numbers: granule,
 // largest, sum', the latter two in coefficient units, at the front of the list; 'both tables judged
 // in turn by 10 to 16, then 20 where S, H or G differ, then 8 exactly when the buffer is shorter
 // than the list'. On any refusal the list stays as it was.
-pub fn compare(first: &[u8], second: &[u8], entries: &mut [i64]) -> Compared
+pub fn compare(first: &[u8], second: &[u8], entries: &mut [i64]) -> Result<u64, RefusedOf>
     ensures { HasCompared first.now second.now entries.old
         entries.new result }
 {
-    match judge(first) {
-        Judged::Refused(refusal) => Compared::Refused(refusal, 0),
-        Judged::Accepted(table) => match judge(second) {
-            Judged::Refused(refusal) => Compared::Refused(refusal, 1),
-            Judged::Accepted(other) => compare_accepted(first, table, second, other, entries),
-        },
-    }
+    let table = judge(first).map_err(|refusal| RefusedOf { refusal, which: 0 })?;
+    let other = judge(second).map_err(|refusal| RefusedOf { refusal, which: 1 })?;
+    compare_accepted(first, table, second, other, entries)
 }

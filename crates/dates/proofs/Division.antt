@@ -3,10 +3,13 @@
 use mathlib.Core.Path.{◌≡◌, sym, ap, ◌∙◌, subst}
 use mathlib.Core.Bool.{Bool, true, false, not, cond, true≢false}
 use Prim.Native.Nat.{ℕ, zero, suc, ◌+◌, ◌-◌, ◌*◌, ◌/◌, ◌%◌, ◌^◌, ◌≤◌, ◌<◌, compare, Ordering}
-use native.Mathlib.Nat.{le_of_lt, lt_of_lt_of_le, lt_irrefl, lt_of_mul-lt-mul_right, mod-lt, add-mul, div-add-mod', div-lt_iff_lt-mul}
-use native.Mathlib.Nat.{mul-one, zero-mul, mul_comm, mul_assoc, mul_left_comm, mul-pos, mul-le-mul_left, mul-le-mul_right, mul-lt-mul_of_pos_right}
+use native.Mathlib.Nat.{le_of_lt, lt_of_lt_of_le, lt_irrefl, lt_of_mul-lt-mul_right, mod-lt}
+use native.Mathlib.Nat.{add-mul, div-add-mod', div-lt_iff_lt-mul, mul-one, zero-mul, mul_comm}
+use native.Mathlib.Nat.{mul_assoc, mul_left_comm, mul-pos, mul-le-mul_left, mul-le-mul_right}
+use native.Mathlib.Nat.{mul-lt-mul_of_pos_right}
 use native.Mathlib.Omega.{arith}
-use lib.Dec.{T, eqb, is_le, compare_is_eq, leb→le, nleb→lt, eqb→eq, eqb_refl, eqb-suc-zero, lit≤, lit<}
+use lib.Dec.{T, eqb, is_le, compare_is_eq, leb→le, nleb→lt, eqb→eq, eqb_refl, eqb-suc-zero, lit≤}
+use lib.Dec.{lit<}
 use lib.Arith.{lt_of_le-ne}
 use lib.Pow.{pow-add, pow_pos, pow_mono, shl_lt}
 use lib.IntN.{pos}

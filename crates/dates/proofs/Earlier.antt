@@ -1,4 +1,6 @@
 -- Of two readings of seconds the earlier is never the later tick. Assumes nothing.
+use Rattle.scales.specs.Answers.{Read, Accepts, read_number, read_tick}
+use Rattle.std.specs.Prelude.{Ok}
 use mathlib.Core.Path.{◌≡◌}
 use mathlib.Core.Logic.{◌⊎◌, inl, inr}
 use mathlib.Core.Bool.{Bool, true, false, ◌||◌, not, false≢true}
@@ -16,14 +18,11 @@ use Rattle.numbers.proofs.Ring.{*-left-comm, one-*}
 use Rattle.numbers.proofs.Order.{*-mono, le_pos}
 use Rattle.numbers.proofs.Rounding.{nearest_keeps}
 use Rattle.scales.specs.Tick.{is_valid}
-use Rattle.scales.specs.declared.answer.Read.{Read}
-use Rattle.scales.specs.declared.answer.Read.TheVariants as R
 use Rattle.numbers.specs.Signs.{signed}
 use Rattle.dates.specs.Doubles.{numerator, denominator, beyond}
 use Rattle.dates.specs.Ticks.{ticks_rounded, second_ticks, j2000, tick_of_seconds}
 use Rattle.dates.specs.Readings.{in_range, refused_if, most_seconds, read_of_seconds}
 use Rattle.dates.specs.Inner.{Far, Readable}
-use Rattle.scales.specs.Answers.{Accepts, read_number, read_tick}
 use Rattle.dates.proofs.Values.{den_pos, signed_times}
 
 -- ---- the order of two doubles is that of their exact values
@@ -89,7 +88,7 @@ unfolding read_of_seconds in_range read_number read_tick
 accepted x tick h = go (finite x) (beyond most_seconds x) (is_valid (tick_of_seconds x)) h.0 h.1
   where
     answer : (f b v : Bool) → Read
-    answer f b v = refused_if (not f) 2 0 (refused_if b 3 0 (refused_if (not v) 4 0 (R.Tick (tick_of_seconds x))))
+    answer f b v = refused_if (not f) 2 0 (refused_if b 3 0 (refused_if (not v) 4 0 (Ok (tick_of_seconds x))))
 
     go : (f b v : Bool) → read_number (answer f b v) ≡ 0 → read_tick (answer f b v) ≡ tick
         → (T f) × (tick_of_seconds x ≡ tick)

@@ -9,7 +9,8 @@ use lib.Dec.{T, leb, eqb}
 use lib.Pow.{pow_pos, field}
 use lib.IntN.{ℤ, pos, nat_abs, ◌*ℤ◌}
 use lib.Bits.{bit_and, and_mask}
-use lib.Ieee.{Float, nan, inf, fin, up, down, binary64, odd, fits, is_nan, of_fields, of_bits, to_bits}
+use lib.Ieee.{Float, nan, inf, fin, up, down, binary64, odd, fits, is_nan, of_fields, of_bits}
+use lib.Ieee.{to_bits}
 use lib.Ieee.Bits.{of_bits-to_bits}
 use lib.Ieee.Exact.{HasValue, odd_sign}
 use lib.Ieee.Scale.{finite}

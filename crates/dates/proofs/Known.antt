@@ -9,7 +9,8 @@ use lib.Ieee.Scale.{finite}
 use Rattle.numbers.specs.Rounding.{nearest, floor_div}
 use Rattle.scales.specs.Tick.{is_valid}
 use Rattle.dates.specs.Doubles.{numerator, denominator, beyond}
-use Rattle.dates.specs.Ticks.{sum_denominator, sum_numerator, tick_of_date, tick_of_seconds, tick_of_sum, ticks_rounded}
+use Rattle.dates.specs.Ticks.{sum_denominator, sum_numerator, tick_of_date, tick_of_seconds}
+use Rattle.dates.specs.Ticks.{tick_of_sum, ticks_rounded}
 use Rattle.dates.specs.Readings.{in_range, read_of_parts, read_of_seconds}
 use Rattle.dates.specs.Written.{since_half, day_of, first_part, date_of, written_of}
 use Rattle.scales.specs.Answers.{Accepts, Refuses, read_number, read_place, read_tick}

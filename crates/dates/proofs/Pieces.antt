@@ -16,8 +16,10 @@ use mir.ValLaws.{to_z_pos}
 use Rattle.numbers.specs.Rounding.{floor_div}
 use Rattle.numbers.proofs.Differences.{rep, rep₂, rep₃, lin}
 use Rattle.numbers.proofs.Order.{size-*, size-+}
-use Rattle.numbers.proofs.Machine.{fits, fits_range, fits_size, fits_small, fits_under, read, read_is, shr_floor}
-use Rattle.numbers.proofs.Rounding.{floored, floor_of_floor, floor_plus, floor_rest, floor_small, floor_split}
+use Rattle.numbers.proofs.Machine.{fits, fits_range, fits_size, fits_small, fits_under, read}
+use Rattle.numbers.proofs.Machine.{read_is, shr_floor}
+use Rattle.numbers.proofs.Rounding.{floored, floor_of_floor, floor_plus, floor_rest, floor_small}
+use Rattle.numbers.proofs.Rounding.{floor_split}
 use Rattle.dates.specs.Inner.{Cut, left_by}
 
 -- ---- whole multiples of the divisor change nothing of what is left

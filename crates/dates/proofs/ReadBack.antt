@@ -1,10 +1,12 @@
 -- 'Reading it back gives the same tick': of every valid tick's date. And the two parts are what the
 -- page says: the first exact, the second in [0, 1). Assumes nothing.
+use Rattle.std.specs.Prelude.{Ok}
 use mathlib.Core.Path.{◌≡◌, refl, sym, ap, ◌∙◌, subst}
 use mathlib.Core.Bool.{Bool, true, false, true≢false}
 use Prim.Native.Nat.{ℕ, ◌+◌, ◌*◌, ◌/◌, ◌%◌, ◌^◌, ◌≤◌, ◌<◌, zero-le}
-use native.Mathlib.Nat.{mul_comm, mod-lt, le_of_lt, le_trans, le_of_eq, mul_right_comm, mul-le-mul_right}
-use native.Mathlib.Nat.{mul-lt-mul_of_pos_right, le_of_mul-le-mul_right, lt_of_mul-lt-mul_right}
+use native.Mathlib.Nat.{mul_comm, mod-lt, le_of_lt, le_trans, le_of_eq, mul_right_comm}
+use native.Mathlib.Nat.{mul-le-mul_right, mul-lt-mul_of_pos_right, le_of_mul-le-mul_right}
+use native.Mathlib.Nat.{lt_of_mul-lt-mul_right}
 use native.Mathlib.Omega.{arith}
 use lib.Arith.{le→nltb}
 use lib.Dec.{ltb, lit≤, lit<}
@@ -22,11 +24,11 @@ use Rattle.numbers.proofs.Ring.{*-assoc, *-left-comm}
 use Rattle.numbers.proofs.Rounding.{Floored, floored}
 use Rattle.scales.specs.Tick.{is_valid}
 use Rattle.scales.proofs.Range.{valid_size}
-use Rattle.scales.specs.declared.answer.Read.TheVariants as R
 use Rattle.dates.specs.Doubles.{numerator, denominator, beyond}
 use Rattle.dates.specs.Ticks.{day_ticks, origin, ticks_rounded, tick_of_date}
 use Rattle.dates.specs.Readings.{in_range, read_of_date, most_days, read_of_parts}
-use Rattle.dates.specs.Written.{since_half, day_of, since_day, first_part, second_part, date_of, written_of}
+use Rattle.dates.specs.Written.{since_half, day_of, since_day, first_part, second_part, date_of}
+use Rattle.dates.specs.Written.{written_of}
 use Rattle.scales.specs.Answers.{Accepts, read_number, read_tick}
 use Rattle.dates.specs.Answers.{written_number, written_first, written_second}
 use Rattle.dates.specs.Inner.{Since}
@@ -146,7 +148,7 @@ module _ (tick : ℤ) (v : is_valid tick ≡ true) where
       not_beyond (second_part tick) false (grid binary64 r day_ticks) (2 ^ 1074) most_days (pow_pos 1074) second_value
       (le_trans (le_of_lt (part_under r r_small)) (lit≤ tt))
 
-  back : read_of_date (date_of tick) ≡ R.Tick tick
+  back : read_of_date (date_of tick) ≡ Ok tick
   unfolding read_of_parts in_range date_of
   back = rw (first_finite, second_finite, first_within, second_within, sum, v)
 

@@ -1,4 +1,5 @@
 -- What a span is worth: a sum's, and whether that is in the range. Assumes nothing.
+use Rattle.std.specs.Prelude.{Ok}
 use mathlib.Core.Path.{◌≡◌, refl}
 use mathlib.Core.Bool.{Bool, true, false, not}
 use Prim.Native.Nat.{ℕ, zero, suc, ◌+◌, ◌*◌, ◌≤◌, ◌<◌}
@@ -10,7 +11,6 @@ use Rattle.numbers.proofs.Differences.{rep, rep₂, rep₄, lin, sizes}
 use Rattle.numbers.proofs.Order.{size-+}
 use Rattle.scales.specs.Tick.{furthest, is_valid}
 use Rattle.scales.proofs.Range.{valid_size}
-use Rattle.scales.specs.declared.answer.Read.TheVariants as R
 use Rattle.dates.specs.declared.span.Span.{Span}
 use Rattle.dates.specs.Readings.{in_range, refused_with, refused_if}
 use Rattle.dates.specs.Inner.{Reach, Spanned, SpanWithin, few_ticks, modest, worth}
@@ -31,7 +31,7 @@ pub outside : (z : ℤ) → furthest < nat_abs z → in_range z ≡ refused_with
 unfolding in_range
 outside z h = go (is_valid z) (valid_size z)
   where
-    go : (b : Bool) → (b ≡ true → nat_abs z ≤ furthest) → refused_if (not b) 4 0 (R.Tick z) ≡ refused_with 4 0
+    go : (b : Bool) → (b ≡ true → nat_abs z ≤ furthest) → refused_if (not b) 4 0 (Ok z) ≡ refused_with 4 0
     go true f = let l = f refl in let no : ⊥ = omega arith in absurd no
     go false f = refl
 

@@ -1,5 +1,7 @@
 -- A date is read by the exact sum of its parts alone: the same sum, split in any two ways, is the
 -- same tick; a smaller sum is never the later tick; and the parts may be swapped. Assumes nothing.
+use Rattle.scales.specs.Answers.{Read, Accepts, read_number, read_tick}
+use Rattle.std.specs.Prelude.{Ok}
 use mathlib.Core.Path.{◌≡◌, refl, ap, ◌∙◌}
 use mathlib.Core.Logic.{◌⊎◌, inl, inr}
 use mathlib.Core.Bool.{Bool, true, false, not}
@@ -14,11 +16,9 @@ use Rattle.numbers.proofs.Order.{*-mono}
 use Rattle.numbers.proofs.Ring.{*-left-comm}
 use Rattle.numbers.proofs.Rounding.{nearest_keeps, nearest_same}
 use Rattle.scales.specs.Tick.{is_valid}
-use Rattle.scales.specs.declared.answer.Read.{Read}
-use Rattle.scales.specs.declared.answer.Read.TheVariants as R
-use Rattle.scales.specs.Answers.{Accepts, read_number, read_tick}
 use Rattle.dates.specs.Doubles.{beyond}
-use Rattle.dates.specs.Ticks.{day_ticks, origin, sum_numerator, sum_denominator, tick_of_sum, tick_of_date}
+use Rattle.dates.specs.Ticks.{day_ticks, origin, sum_numerator, sum_denominator, tick_of_sum}
+use Rattle.dates.specs.Ticks.{tick_of_date}
 use Rattle.dates.specs.Readings.{in_range, most_days, read_of_parts, refused_if}
 use Rattle.dates.specs.Splits.{Passes, SameSum, SumNotLater}
 use Rattle.dates.proofs.Sums.{sum_pos, swapped_tick}
@@ -71,7 +71,7 @@ accepted a b tick h = go (finite a) (finite b) (beyond most_days a) (beyond most
   where
     answer : (f g p q v : Bool) → Read
     answer f g p q v =
-        refused_if (not f) 2 0 (refused_if (not g) 2 1 (refused_if p 3 0 (refused_if q 3 1 (refused_if (not v) 4 0 (R.Tick (tick_of_date a b))))))
+        refused_if (not f) 2 0 (refused_if (not g) 2 1 (refused_if p 3 0 (refused_if q 3 1 (refused_if (not v) 4 0 (Ok (tick_of_date a b))))))
 
     go : (f g p q v : Bool) → read_number (answer f g p q v) ≡ 0 → read_tick (answer f g p q v) ≡ tick
         → tick_of_date a b ≡ tick

@@ -4,7 +4,8 @@ use mathlib.Core.Path.{◌≡◌, refl, sym, ap, ap₂, ◌∙◌}
 use mathlib.Core.Logic.{inl, inr}
 use mathlib.Core.Bool.{◌&&◌}
 use Prim.Native.Nat.{ℕ, zero, suc, ◌+◌, ◌-◌, ◌*◌, ◌%◌, ◌^◌, ◌≤◌, ◌<◌}
-use native.Mathlib.Nat.{le_of_lt, le_trans, le_of_eq, lt_of_le_of_lt, lt_irrefl, lt_of_not-le, mul_comm, mul-one, mul-pos}
+use native.Mathlib.Nat.{le_of_lt, le_trans, le_of_eq, lt_of_le_of_lt, lt_irrefl, lt_of_not-le}
+use native.Mathlib.Nat.{mul_comm, mul-one, mul-pos}
 use native.Mathlib.Omega.{arith}
 use lib.Dec.{T, eqb, leb, ltb, lit≤, lit<, ltb→lt}
 use lib.IntN.{ℤ, pos, negsuc, nat_abs, ◌+ℤ◌, ◌-ℤ◌, ◌*ℤ◌, +ℤ_comm}
@@ -15,10 +16,12 @@ use Rattle.numbers.specs.Rounding.{floor_div, nearest}
 use Rattle.numbers.proofs.Differences.{rep, rep₂, rep₃, lin, sizes}
 use Rattle.numbers.proofs.Order.{le_or_lt, size-*, size-+}
 use Rattle.numbers.proofs.Ring.{*-assoc, *-left-comm, one-*}
-use Rattle.numbers.proofs.Rounding.{floor_exact, floor_small, floor_sum, nearest_even, nearest_of_floor, nearest_plus, nearest_small, nearest_sum}
+use Rattle.numbers.proofs.Rounding.{floor_exact, floor_small, floor_sum, nearest_even}
+use Rattle.numbers.proofs.Rounding.{nearest_of_floor, nearest_plus, nearest_small, nearest_sum}
 use Rattle.numbers.specs.Signs.{signed}
 use Rattle.dates.specs.Doubles.{numerator, denominator}
-use Rattle.dates.specs.Ticks.{day_ticks, origin, sum_numerator, sum_denominator, ticks_rounded, tick_of_sum, tick_of_date}
+use Rattle.dates.specs.Ticks.{day_ticks, origin, sum_numerator, sum_denominator, ticks_rounded}
+use Rattle.dates.specs.Ticks.{tick_of_sum, tick_of_date}
 use Rattle.dates.specs.Readings.{in_range, refused_with}
 use Rattle.dates.specs.Inner.{FarPieces, left_by, shares_of}
 use Rattle.scales.specs.Tick.{furthest}

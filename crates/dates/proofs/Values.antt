@@ -4,10 +4,11 @@ use mathlib.Core.Path.{◌≡◌, refl, sym, ap, ◌∙◌, subst}
 use mathlib.Core.Logic.{inl, inr}
 use mathlib.Core.Bool.{Bool, true, false, not}
 use Prim.Native.Nat.{ℕ, ◌+◌, ◌-◌, ◌*◌, ◌^◌, ◌≤◌, ◌<◌}
-use native.Mathlib.Nat.{le_of_lt, le_trans, le_of_eq, lt_of_le_of_lt, lt_of_lt_of_le, lt_irrefl, lt_of_not-le, le-add_right, div-mul-le_self, mul-pos}
-use native.Mathlib.Nat.{mul-lt-mul_of_pos_left}
+use native.Mathlib.Nat.{le_of_lt, le_trans, le_of_eq, lt_of_le_of_lt, lt_of_lt_of_le, lt_irrefl}
+use native.Mathlib.Nat.{lt_of_not-le, le-add_right, div-mul-le_self, mul-pos}
+use native.Mathlib.Nat.{mul-lt-mul_of_pos_left, one-mul, mul_comm, mul_assoc, mul_left_comm}
+use native.Mathlib.Nat.{mul-le-mul, mul-le-mul_left, mul-le-mul_right, le_of_mul-le-mul_left}
 use lib.Signed.{◌≤ℤ◌}
-use native.Mathlib.Nat.{one-mul, mul_comm, mul_assoc, mul_left_comm, mul-le-mul, mul-le-mul_left, mul-le-mul_right, le_of_mul-le-mul_left}
 use native.Mathlib.Omega.{arith}
 use lib.Arith.{le→nltb}
 use lib.Dec.{T, nltb→le, lit≤, lit<}
@@ -22,12 +23,14 @@ use Rattle.numbers.proofs.Differences.{rep, lin, sizes}
 use Rattle.numbers.proofs.Ring.{*-assoc, *-left-comm, one-*}
 use Rattle.numbers.proofs.Order.{abs_neg, abs-*, size-*}
 use Rattle.numbers.proofs.Flags.{both}
-use Rattle.numbers.proofs.Rounding.{*-cancel, floor_reduced, floor_rest, floor_same, floor_small, floor_split, floor_tiny, nearest_is, nearest_same}
+use Rattle.numbers.proofs.Rounding.{*-cancel, floor_reduced, floor_rest, floor_same, floor_small}
+use Rattle.numbers.proofs.Rounding.{floor_split, floor_tiny, nearest_is, nearest_same}
 use Rattle.dates.specs.declared.span.Span.{Span}
 use Rattle.numbers.specs.Signs.{signed}
 use Rattle.dates.specs.Doubles.{numerator, denominator, beyond}
 use Rattle.dates.specs.Ticks.{ticks_rounded}
-use Rattle.dates.specs.Inner.{Apart, Counted, Factored, Far, Pieces, Readable, few_units, left_by, passing, shares_of}
+use Rattle.dates.specs.Inner.{Apart, Counted, Factored, Far, Pieces, Readable, few_units, left_by}
+use Rattle.dates.specs.Inner.{passing, shares_of}
 
 -- ---- signs
 pub signed_times : (s : Bool) (k n : ℕ) → pos k *ℤ signed s n ≡ signed s (k * n)

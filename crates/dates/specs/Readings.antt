@@ -1,14 +1,13 @@
 -- 'A reading is a two-part Julian date in days, two doubles; or seconds past J2000, one double; or
 -- ticks.' 'A UTC reading is a Modified Julian Day and ticks within the day.'
-use Rattle.std.specs.Prelude.{Bool, cond, not, List, ℕ, ℤ, Float}
+use Rattle.scales.specs.Answers.{Read}
+use Rattle.std.specs.Prelude.{Err, Ok, Bool, cond, not, List, ℕ, ℤ, Float}
 use Rattle.std.specs.Float.Ieee.Scale.{finite}
 use Rattle.scales.specs.declared.scale.Purpose.{Purpose}
 use Rattle.scales.specs.declared.scale.Purpose.TheVariants as P
 use Rattle.scales.specs.Tick.{is_valid}
 use Rattle.utc.specs.Readings.{utc_read}
 use Rattle.dates.specs.declared.reading.Date.{Date}
-use Rattle.scales.specs.declared.answer.Read.{Read}
-use Rattle.scales.specs.declared.answer.Read.TheVariants as R
 use Rattle.dates.specs.declared.reading.Reading.{Reading}
 use Rattle.dates.specs.declared.reading.Reading.TheVariants.{TwoPart, SinceJ2000, Ticks, Utc}
 use Rattle.dates.specs.Doubles.{beyond}
@@ -23,7 +22,7 @@ most_seconds = 10000000000
 
 -- a refusal by its number and the place told
 abbrev pub refused_with : ℕ → ℕ → Read
-refused_with number place = R.Refused (record { number = number; place = place })
+refused_with number place = Err (record { number = number; place = place })
 
 -- that refusal where the test holds, else what comes after it in the order
 abbrev pub refused_if : Bool → ℕ → ℕ → Read → Read
@@ -31,7 +30,7 @@ refused_if test number place otherwise = cond test (refused_with number place) o
 
 -- '4: epoch outside the range at start', 'steps done': none
 unfoldable pub in_range : ℤ → Read
-in_range tick = refused_if (not (is_valid tick)) 4 0 (R.Tick tick)
+in_range tick = refused_if (not (is_valid tick)) 4 0 (Ok tick)
 
 -- '2 over both parts, 3 over both parts (the first part first in each), 4'
 unfoldable pub read_of_parts : Float → Float → Read

@@ -1,14 +1,13 @@
 -- 'Writing a tick as a date: the first part is the last Julian date ending in .5 not after it,
 -- exact; the second is the ticks since then divided by 86,400,000,000,000 as one rounded double
 -- division.'
-use Rattle.std.specs.Prelude.{cond, ◌/◌, ℤ, pos, ◌+ℤ◌, ◌-ℤ◌, ◌*ℤ◌, Float}
+use Rattle.dates.specs.Answers.{Written}
+use Rattle.std.specs.Prelude.{Err, Ok, cond, ◌/◌, ℤ, pos, ◌+ℤ◌, ◌-ℤ◌, ◌*ℤ◌, Float}
 use Rattle.std.specs.Float.{binary64}
 use Rattle.std.specs.Float.Ieee.{of_int, div}
 use Rattle.numbers.specs.Rounding.{floor_div}
 use Rattle.scales.specs.Tick.{is_valid}
 use Rattle.dates.specs.declared.reading.Date.{Date}
-use Rattle.dates.specs.declared.writing.Written.{Written}
-use Rattle.dates.specs.declared.writing.Written.TheVariants as W
 use Rattle.dates.specs.Ticks.{day_ticks, origin}
 
 -- the ticks from JD 0.5 to a tick
@@ -37,4 +36,4 @@ date_of tick = record { first = first_part tick; second = second_part tick }
 -- '4: epoch outside the range', place 0: 'Reading or writing a date counts no step.'
 unfoldable pub written_of : ℤ → Written
 written_of tick =
-    cond (is_valid tick) (W.Date (date_of tick)) (W.Refused (record { number = 4; place = 0 }))
+    cond (is_valid tick) (Ok (date_of tick)) (Err (record { number = 4; place = 0 }))

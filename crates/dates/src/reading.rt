@@ -2,15 +2,13 @@
 ghost use Rattle.std.specs.Prelude.{◌≡◌, false, ◌&&◌};
 ghost use Rattle.dates.specs.Readings.{in_range, most_days, read_of, read_of_date, read_of_parts};
 ghost use Rattle.dates.specs.Readings.{read_of_seconds, purpose_of, refused_with};
-ghost use Rattle.dates.specs.Inner.{Listed, Reach, SpanWithin, few_ticks, modest, passing};
-ghost use Rattle.dates.specs.Inner.{worth};
+ghost use Rattle.dates.specs.Inner.{Listed, Reach, SpanWithin, few_ticks, modest, passing, worth};
 
 use crate::limits::{beyond_days, beyond_seconds, both_pass, is_finite};
 use crate::span::{Span, plus};
 use crate::ticks::{
     DAY_ODD, DAY_TWOS, SECOND_ODD, SECOND_TWOS, count_of_seconds, rounded, sum_of_days,
 };
-use scales::answer::Read;
 use scales::refusal::Refusal;
 use scales::scale::Purpose;
 use scales::tick::valid;
@@ -38,25 +36,25 @@ const FIRST: u64 = 0;
 
 const SECOND: u64 = 1;
 
-fn refused(number: u32, place: u64) -> Read
+fn refused(number: u32, place: u64) -> Result<i64, Refusal>
     ensures { result ≡ refused_with number place }
 {
-    Read::Refused(Refusal { number, place })
+    Err(Refusal { number, place })
 }
 
 // Ticks, read as they are: refusal 4 outside the range.
-pub fn ranged(tick: i64) -> Read
+pub fn ranged(tick: i64) -> Result<i64, Refusal>
     ensures { result ≡ in_range tick }
 {
     if valid(tick) {
-        return Read::Tick(tick);
+        return Ok(tick);
     }
     refused(4, 0)
 }
 
 // So many units of `per` ticks, and ticks. `most` units are 100,000 days: beyond them, either way,
 // no ticks of a span bring it back into the range, and up to there it fits 64 bits.
-fn placed(span: Span, per: i64, most: i64) -> Read
+fn placed(span: Span, per: i64, most: i64) -> Result<i64, Refusal>
     requires span_within { SpanWithin modest few_ticks span }
     requires reach { Reach per most }
     ensures { result ≡ in_range (worth per span) }
@@ -74,7 +72,7 @@ fn placed(span: Span, per: i64, most: i64) -> Read
 // The refusal of two parts of which one does not pass: '2 over both parts, 3 over both parts (the
 // first part first in each)'.
 #[tactic(auto, unfolding(crate::specs::Readings::read_of_parts))]
-fn no_date(first: f64, second: f64) -> Read
+fn no_date(first: f64, second: f64) -> Result<i64, Refusal>
     requires { (passing most_days first && passing most_days second) ≡ false }
     ensures { result ≡ read_of_parts first second }
 {
@@ -92,7 +90,7 @@ fn no_date(first: f64, second: f64) -> Read
 
 // 'the exact sum of both parts is rounded once', less Julian date 2443144.5003725, which is
 // 2,443,144 days and 43,232.184 s.
-fn two_part(first: f64, second: f64) -> Read
+fn two_part(first: f64, second: f64) -> Result<i64, Refusal>
     ensures { result ≡ read_of_parts first second }
 {
     if !both_pass(first, second) {
@@ -107,7 +105,7 @@ fn two_part(first: f64, second: f64) -> Read
 }
 
 // Seconds past J2000, which is 725,803,167.816 s past Julian date 2443144.5003725.
-fn since_j2000(seconds: f64) -> Read
+fn since_j2000(seconds: f64) -> Result<i64, Refusal>
     ensures { result ≡ read_of_seconds seconds }
 {
     if !is_finite(seconds) {
@@ -138,7 +136,7 @@ pub fn purpose_of(reading: Reading) -> Purpose
 
 // The tick of a reading, past Julian date 2443144.5003725, or refusal 2, 3, 5 or 4, in that order.
 // Where it is a UTC reading, the list has been judged by refusal 7.
-pub fn tick_of(reading: Reading, leaps: &[i64]) -> Read
+pub fn tick_of(reading: Reading, leaps: &[i64]) -> Result<i64, Refusal>
     requires { Listed (purpose_of reading) leaps.now }
     ensures { result ≡ read_of leaps.now reading }
 {
@@ -151,7 +149,7 @@ pub fn tick_of(reading: Reading, leaps: &[i64]) -> Read
 }
 
 // The date reader: the same, of a date.
-pub fn read_date(date: Date) -> Read
+pub fn read_date(date: Date) -> Result<i64, Refusal>
     ensures { result ≡ read_of_date date }
 {
     two_part(date.first, date.second)

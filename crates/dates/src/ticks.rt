@@ -8,9 +8,8 @@ ghost use Rattle.std.specs.Float.Ieee.Scale.{finite};
 ghost use Rattle.numbers.specs.Rounding.{floor_div};
 ghost use Rattle.dates.specs.Doubles.{denominator, numerator};
 ghost use Rattle.dates.specs.Readings.{most_days, most_seconds};
-ghost use Rattle.dates.specs.Inner.{Counted, CountedSum, Cut, Factored, Far, FarPieces};
-ghost use Rattle.dates.specs.Inner.{Pieces, Readable, Rounded, SpanWithin, few_units, left_by};
-ghost use Rattle.dates.specs.Inner.{worth};
+ghost use Rattle.dates.specs.Inner.{Counted, CountedSum, Cut, Factored, Far, FarPieces, Pieces};
+ghost use Rattle.dates.specs.Inner.{Readable, Rounded, SpanWithin, few_units, left_by, worth};
 
 use crate::double::take_apart;
 use crate::span::{Span, plus};

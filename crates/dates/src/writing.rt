@@ -11,13 +11,6 @@ use crate::reading::Date;
 use scales::refusal::Refusal;
 use scales::tick::valid;
 
-// A date, or refusal 4.
-#[derive(Clone, Copy)]
-pub enum Written {
-    Date(Date),
-    Refused(Refusal),
-}
-
 // The ticks since 70,000 days before JD 2443144.5, which is before every valid tick; the caller's
 // is valid.
 fn since_first(tick: i64) -> u64
@@ -53,17 +46,17 @@ fn part_of_day(ticks: u64) -> f64
 
 // Writes a tick as a date: the last Julian date ending in .5 not after it, and the part of a day
 // since then, in [0, 1); or refusal 4.
-pub fn write_date(tick: i64) -> Written
+pub fn write_date(tick: i64) -> Result<Date, Refusal>
     ensures { result ≡ written_of tick }
 {
     if !valid(tick) {
-        return Written::Refused(Refusal {
+        return Err(Refusal {
             number: 4,
             place: 0,
         });
     }
     let since = since_first(tick);
-    Written::Date(Date {
+    Ok(Date {
         first: julian_date(since / 86_400_000_000_000),
         second: part_of_day(since % 86_400_000_000_000),
     })

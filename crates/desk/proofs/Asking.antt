@@ -1,5 +1,9 @@
 -- The order of refusals in the code's steps: what is asked is what is settled before the table is
 -- looked at; a conversion by what is asked and what was read is the rule's. Assumes nothing.
+use Rattle.scales.specs.Answers.{Read, Answer}
+use Rattle.blocks.specs.Answers.{Judged}
+use Rattle.image.specs.declared.table.Table.{Table}
+use Rattle.std.specs.Prelude.{Err, None, Ok, Option}
 use mathlib.Core.Path.{◌≡◌, refl, sym, ◌∙◌, ap}
 use mathlib.Core.Bool.{Bool, true, false, cond, ◌&&◌}
 use mathlib.Core.List.{List, [], ◌∷◌, ◌++◌}
@@ -7,50 +11,42 @@ use Prim.Native.Nat.{ℕ}
 use native.Mathlib.Omega.{arith}
 use lib.IntN.{ℤ}
 use Rattle.numbers.proofs.Flags.{never}
-use Rattle.scales.specs.declared.answer.Answer.{Answer}
-use Rattle.scales.specs.declared.answer.Answer.TheVariants.{Refused}
 use Rattle.scales.specs.declared.refusal.Refusal.{Refusal}
-use Rattle.scales.specs.declared.scale.Named.TheVariants as N
 use Rattle.scales.specs.declared.scale.Purpose.{Purpose}
 use Rattle.scales.specs.declared.scale.Scale.{Scale}
 use Rattle.scales.specs.Path.{path, crosses}
 use Rattle.scales.specs.Scales.{is_code, named, scale_of}
-use Rattle.blocks.specs.declared.answer.Judged.{Judged}
 use Rattle.blocks.specs.Judging.{judged}
 use Rattle.dates.specs.declared.reading.Reading.{Reading}
 use Rattle.dates.specs.Readings.{in_range, read_of, purpose_of}
-use Rattle.scales.specs.declared.answer.Read.{Read}
-use Rattle.scales.specs.declared.answer.Read.TheVariants as R
-use Rattle.walk.specs.declared.kept.Kept.{Kept}
-use Rattle.walk.specs.declared.kept.Kept.TheVariants as K
 use Rattle.walk.specs.Walk.{walk_between}
 use Rattle.walk.proofs.Unseen.{walk_unseen}
 use Rattle.desk.specs.declared.asked.Asked.{Asked}
 use Rattle.desk.specs.declared.asked.Asked.TheVariants as A
 use Rattle.desk.specs.Order.{Check, passes, refuses, unless, first_of, before_table, of_table}
 use Rattle.desk.specs.Order.{if_crossed, settled, leaps_fit, leaps_right}
-use Rattle.desk.specs.Conversion.{answering, started, between_of, held_by}
-use Rattle.desk.specs.Conversion.{convert_read, convert_judged, convert_into}
+use Rattle.desk.specs.Conversion.{answering, started, between_of, held_by, convert_read}
+use Rattle.desk.specs.Conversion.{convert_judged, convert_into}
 use Rattle.opened.specs.Opened.{coefficients_in}
 use Rattle.desk.specs.Inner.{asked_by, asked_of, lent_checks, convert_asked, asked_over}
 
 -- ---- a code and its scale
 module _ (purpose : Purpose) (code place : ℕ) where
-  code_refused : (refusal : Refusal) → scale_of purpose code place ≡ N.Refused refusal
+  code_refused : (refusal : Refusal) → scale_of purpose code place ≡ Err refusal
       → (is_code purpose code ≡ false) × (refusal ≡ record { number = 1; place = place })
   code_refused refusal e = by (is_code purpose code) e
     where
       by : (t : Bool)
-          → cond t (N.Scale (named code)) (N.Refused (record { number = 1; place = place })) ≡ N.Refused refusal
+          → cond t (Ok (named code)) (Err (record { number = 1; place = place })) ≡ Err refusal
           → (t ≡ false) × (refusal ≡ record { number = 1; place = place })
       by true e = let z : ◌≡◌ {A = ℕ} 0 1 = cc in let no : ⊥ = omega arith in absurd no
       by false e = (refl, cc)
 
-  code_named : (scale : Scale) → scale_of purpose code place ≡ N.Scale scale
+  code_named : (scale : Scale) → scale_of purpose code place ≡ Ok scale
       → (is_code purpose code ≡ true) × (scale ≡ named code)
   code_named scale e = by (is_code purpose code) e
     where
-      by : (t : Bool) → cond t (N.Scale (named code)) (N.Refused (record { number = 1; place = place })) ≡ N.Scale scale
+      by : (t : Bool) → cond t (Ok (named code)) (Err (record { number = 1; place = place })) ≡ Ok scale
           → (t ≡ true) × (scale ≡ named code)
       by true e = (refl, cc)
       by false e = let z : ◌≡◌ {A = ℕ} 0 1 = cc in let no : ⊥ = omega arith in absurd no
@@ -61,22 +57,22 @@ only passes = refl
 only (refuses refusal) = refl
 
 module _ (reads writes : Purpose) (from to : ℕ) (fits right : Bool) where
-  pub from_refused : (refusal : Refusal) → scale_of reads from 0 ≡ N.Refused refusal
-      → A.Refused refusal ≡ asked_of reads writes from to fits right
+  pub from_refused : (refusal : Refusal) → scale_of reads from 0 ≡ Err refusal
+      → Err refusal ≡ asked_of reads writes from to fits right
   unfolding asked_of
   from_refused refusal e =
       let c = code_refused reads from 0 refusal e in
-      rw c.0 (ap A.Refused c.1)
+      rw c.0 (ap Err c.1)
 
-  module _ (start : Scale) (begins : scale_of reads from 0 ≡ N.Scale start) where
-    pub to_refused : (refusal : Refusal) → scale_of writes to 1 ≡ N.Refused refusal
-        → A.Refused refusal ≡ asked_of reads writes from to fits right
+  module _ (start : Scale) (begins : scale_of reads from 0 ≡ Ok start) where
+    pub to_refused : (refusal : Refusal) → scale_of writes to 1 ≡ Err refusal
+        → Err refusal ≡ asked_of reads writes from to fits right
     unfolding asked_of
     to_refused refusal e =
         let c = code_refused writes to 1 refusal e in
-        rw ((code_named reads from 0 start begins).0, c.0) (ap A.Refused c.1)
+        rw ((code_named reads from 0 start begins).0, c.0) (ap Err c.1)
 
-    pub both_named : (end : Scale) → scale_of writes to 1 ≡ N.Scale end
+    pub both_named : (end : Scale) → scale_of writes to 1 ≡ Ok end
         → asked_by (lent_checks fits right) start end ≡ asked_of reads writes from to fits right
     unfolding asked_of
     both_named end e =
@@ -86,15 +82,15 @@ module _ (reads writes : Purpose) (from to : ℕ) (fits right : Bool) where
 
 -- ---- what is settled is what is asked, and then the table
 abbrev pub settled_by : Asked → Judged → Check
-settled_by (A.Plain start end) table = passes
-settled_by (A.Crossing start end) table = of_table table
-settled_by (A.Refused refusal) table = refuses refusal
+settled_by (Ok (A.Plain start end)) table = passes
+settled_by (Ok (A.Crossing start end)) table = of_table table
+settled_by (Err refusal) table = refuses refusal
 
 -- the scales asked for are the codes', and a plain path does not cross
 abbrev pub Between : Scale → Scale → Asked → Type 0
-Between from to (A.Plain start end) = (start ≡ from) × (end ≡ to) × (crosses from to ≡ false)
-Between from to (A.Crossing start end) = (start ≡ from) × (end ≡ to)
-Between from to (A.Refused refusal) = Unit {0}
+Between from to (Ok (A.Plain start end)) = (start ≡ from) × (end ≡ to) × (crosses from to ≡ false)
+Between from to (Ok (A.Crossing start end)) = (start ≡ from) × (end ≡ to)
+Between from to (Err refusal) = Unit {0}
 
 pub record Asks (reads writes : Purpose) (from to : ℕ) (fits right : Bool) (asked : Asked) : Type 0 where
   pub settles : (table : Judged) → settled reads writes from to fits right table ≡ settled_by asked table
@@ -133,13 +129,13 @@ asks reads writes from to fits right =
 
 -- lent lists that do not fit, or are not right, are a refusal, 8 or 7 if no other
 unlent : (reads writes : Purpose) (from to : ℕ) (fits right : Bool) → (fits && right) ≡ false
-    → (refusal : Refusal) × (asked_of reads writes from to fits right ≡ A.Refused refusal)
+    → (refusal : Refusal) × (asked_of reads writes from to fits right ≡ Err refusal)
 unfolding asked_of
 unlent reads writes from to fits right e = by (is_code reads from) (is_code writes to) fits right e
   where
     by : (p q f r : Bool) → (f && r) ≡ false → (refusal : Refusal)
         × (asked_by (first_of (unless p 1 0 ∷ unless q 1 1 ∷ unless f 8 0 ∷ unless r 7 0 ∷ [])) (named from) (named to)
-        ≡ A.Refused refusal)
+        ≡ Err refusal)
     by true true false r e = (record { number = 8; place = 0 }, refl)
     by true true true false e = (record { number = 7; place = 0 }, refl)
     by true true true true e = never (sym e)
@@ -147,16 +143,16 @@ unlent reads writes from to fits right e = by (is_code reads from) (is_code writ
     by false q f r e = (record { number = 1; place = 0 }, refl)
 
 -- a path is no refusal
-pub plain_sound : (start end : Scale) (refusal : Refusal) → A.Plain start end ≡ A.Refused refusal → ⊥
+pub plain_sound : (start end : Scale) (refusal : Refusal) → Ok (A.Plain start end) ≡ Err refusal → ⊥
 plain_sound start end refusal e = let z : ◌≡◌ {A = ℕ} 0 2 = cc in omega arith
 
-pub crossing_sound : (start end : Scale) (refusal : Refusal) → A.Crossing start end ≡ A.Refused refusal → ⊥
+pub crossing_sound : (start end : Scale) (refusal : Refusal) → Ok (A.Crossing start end) ≡ Err refusal → ⊥
 crossing_sound start end refusal e = let z : ◌≡◌ {A = ℕ} 0 2 = cc in omega arith
 
 -- so that they fit and are right where what is asked is no refusal, and where all is settled
 pub asked_lent : (reads writes : Purpose) (from to : ℕ) (fits right : Bool) (asked : Asked)
     → asked_of reads writes from to fits right ≡ asked
-    → ((refusal : Refusal) → asked ≡ A.Refused refusal → ⊥) → (fits && right) ≡ true
+    → ((refusal : Refusal) → asked ≡ Err refusal → ⊥) → (fits && right) ≡ true
 asked_lent reads writes from to fits right asked e sound = by (fits && right) refl
   where
     by : (lent : Bool) → (fits && right) ≡ lent → lent ≡ true
@@ -178,12 +174,12 @@ settled_lent reads writes from to fits right table e = by (fits && right) refl
         absurd impossible
 
 -- ---- what was read, case by case
-module _ (from to : Scale) (kept : Kept) (cs : List ℤ) where
-  pub between_tick : (tick : ℤ) → walk_between kept cs from to tick ≡ between_of from to (R.Tick tick) kept cs
+module _ (from to : Scale) (kept : Option Table) (cs : List ℤ) where
+  pub between_tick : (tick : ℤ) → walk_between kept cs from to tick ≡ between_of from to (Ok tick) kept cs
   unfolding between_of
   between_tick tick = refl
 
-  pub between_refusal : (refusal : Refusal) → Refused refusal ≡ between_of from to (R.Refused refusal) kept cs
+  pub between_refusal : (refusal : Refusal) → Err refusal ≡ between_of from to (Err refusal) kept cs
   unfolding between_of
   between_refusal refusal = refl
 
@@ -191,10 +187,10 @@ module _ (from to : Scale) (kept : Kept) (cs : List ℤ) where
 module _ (start end : Scale) where
   started_same : (walk walk' : ℤ → Answer) → ((tick : ℤ) → walk tick ≡ walk' tick) → (read : Read)
       → started walk read ≡ started walk' read
-  started_same walk walk' same (R.Tick tick) = same tick
-  started_same walk walk' same (R.Refused refusal) = refl
+  started_same walk walk' same (Ok tick) = same tick
+  started_same walk walk' same (Err refusal) = refl
 
-  pub between_unseen : crosses start end ≡ false → (read : Read) (kept kept' : Kept) (cs cs' : List ℤ)
+  pub between_unseen : crosses start end ≡ false → (read : Read) (kept kept' : Option Table) (cs cs' : List ℤ)
       → between_of start end read kept cs ≡ between_of start end read kept' cs'
   unfolding between_of
   between_unseen e read kept kept' cs cs' =
@@ -205,10 +201,10 @@ module _ (from to : ℕ) (table : Judged) (cs : List ℤ) where
   by_between : (asked : Asked) → Between (named from) (named to) asked → (read : Read)
       → convert_asked asked read table cs
       ≡ answering (settled_by asked table) (between_of (named from) (named to) read (held_by table) cs)
-  by_between (A.Plain start end) b read =
-      rw (b.0, b.1) (between_unseen (named from) (named to) b.2 read K.Nothing (held_by table) [] cs)
-  by_between (A.Crossing start end) b read = rw (b.0, b.1)
-  by_between (A.Refused refusal) b read = refl
+  by_between (Ok (A.Plain start end)) b read =
+      rw (b.0, b.1) (between_unseen (named from) (named to) b.2 read None (held_by table) [] cs)
+  by_between (Ok (A.Crossing start end)) b read = rw (b.0, b.1)
+  by_between (Err refusal) b read = refl
 
   pub by_asked : (reads writes : Purpose) (fits right : Bool) (asked : Asked) (read : Read)
       → asked_of reads writes from to fits right ≡ asked

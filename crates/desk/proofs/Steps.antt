@@ -1,43 +1,40 @@
 -- 'Its answer carries the tick and the number of steps walked': an accepted conversion has walked
 -- its whole path. Assumes nothing.
+use Rattle.scales.specs.Answers.{Read, Answer, converted_to}
+use Rattle.image.specs.declared.table.Table.{Table}
+use Rattle.std.specs.Prelude.{Err, Ok, Option}
 use mathlib.Core.Path.{◌≡◌, refl, ◌∙◌}
 use mathlib.Core.List.{List}
 use Prim.Native.Nat.{ℕ}
 use native.Mathlib.Nat.{zero-add}
 use lib.IntN.{ℤ}
-use Rattle.scales.specs.declared.answer.Answer.{Answer}
-use Rattle.scales.specs.declared.answer.Answer.TheVariants.{Converted}
 use Rattle.scales.specs.declared.answer.Epoch.{Epoch}
 use Rattle.scales.specs.declared.scale.Purpose.{Purpose}
 use Rattle.scales.specs.declared.scale.Scale.{Scale}
 use Rattle.scales.specs.Path.{path, steps}
 use Rattle.scales.specs.Scales.{named}
 use Rattle.blocks.specs.Judging.{judged}
-use Rattle.scales.specs.declared.answer.Read.{Read}
-use Rattle.scales.specs.declared.answer.Read.TheVariants as R
 use Rattle.dates.specs.declared.reading.Reading.{Reading}
 use Rattle.dates.specs.Readings.{read_of, purpose_of}
 use Rattle.opened.specs.Opened.{coefficients_in}
-use Rattle.walk.specs.declared.kept.Kept.{Kept}
 use Rattle.walk.proofs.Steps.{not_both, steps_are}
-use Rattle.desk.specs.Order.{Check, passes, refuses, settled}
-use Rattle.desk.specs.Order.{leaps_fit, leaps_right}
-use Rattle.desk.specs.Conversion.{answering, started, between_of, held_by}
-use Rattle.desk.specs.Conversion.{convert_read, convert_into}
+use Rattle.desk.specs.Order.{Check, passes, refuses, settled, leaps_fit, leaps_right}
+use Rattle.desk.specs.Conversion.{answering, started, between_of, held_by, convert_read}
+use Rattle.desk.specs.Conversion.{convert_into}
 
 -- what is accepted was settled
 pub accepted_settled : (check : Check) (answer : Answer) {epoch : Epoch} {n : ℕ}
-    → answering check answer ≡ Converted epoch n → (check ≡ passes) × (answer ≡ Converted epoch n)
+    → answering check answer ≡ converted_to epoch n → (check ≡ passes) × (answer ≡ converted_to epoch n)
 accepted_settled passes answer e = (refl, e)
 accepted_settled (refuses refusal) answer e = not_both refl e
 
 started_steps : (walk : ℤ → Answer) (read : Read) {many : ℕ} {epoch : Epoch} {n : ℕ}
-    → ((tick : ℤ) → walk tick ≡ Converted epoch n → n ≡ many) → started walk read ≡ Converted epoch n → n ≡ many
-started_steps walk (R.Tick tick) h e = h tick e
-started_steps walk (R.Refused refusal) h e = not_both refl e
+    → ((tick : ℤ) → walk tick ≡ converted_to epoch n → n ≡ many) → started walk read ≡ converted_to epoch n → n ≡ many
+started_steps walk (Ok tick) h e = h tick e
+started_steps walk (Err refusal) h e = not_both refl e
 
-between_steps : (from to : Scale) (read : Read) (kept : Kept) (coefficients : List ℤ) {epoch : Epoch} {n : ℕ}
-    → between_of from to read kept coefficients ≡ Converted epoch n → n ≡ steps from to
+between_steps : (from to : Scale) (read : Read) (kept : Option Table) (coefficients : List ℤ) {epoch : Epoch} {n : ℕ}
+    → between_of from to read kept coefficients ≡ converted_to epoch n → n ≡ steps from to
 unfolding between_of
 between_steps from to read kept coefficients e =
     started_steps _ read
@@ -45,7 +42,7 @@ between_steps from to read kept coefficients e =
     ∙ zero-add (steps from to)) e
 
 pub conversion_steps : (writes : Purpose) (from to : ℕ) (reading : Reading) (leaps : List ℤ) (bytes : List ℕ)
-    {epoch : Epoch} {n : ℕ} → convert_into writes from to reading leaps bytes ≡ Converted epoch n
+    {epoch : Epoch} {n : ℕ} → convert_into writes from to reading leaps bytes ≡ converted_to epoch n
     → n ≡ steps (named from) (named to)
 unfolding convert_into convert_read
 conversion_steps writes from to reading leaps bytes e =

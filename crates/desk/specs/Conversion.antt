@@ -1,44 +1,38 @@
 -- A conversion: what is settled first, 'then 2 over both parts, 3 over both parts .., 4, then step
 -- by step, 6 before 4'; a UTC reading has '5 .. after 3'.
-use Rattle.std.specs.Prelude.{Bool, true, List, ℕ, ℤ}
-use Rattle.scales.specs.declared.answer.Answer.{Answer}
-use Rattle.scales.specs.declared.answer.Answer.TheVariants.{Refused}
+use Rattle.scales.specs.Answers.{Read, Answer}
+use Rattle.blocks.specs.Answers.{Judged}
+use Rattle.image.specs.declared.table.Table.{Table}
+use Rattle.std.specs.Prelude.{Err, None, Ok, Option, Some, Bool, true, List, ℕ, ℤ}
 use Rattle.scales.specs.declared.scale.Purpose.{Purpose}
 use Rattle.scales.specs.declared.scale.Purpose.TheVariants as P
 use Rattle.scales.specs.declared.scale.Scale.{Scale}
 use Rattle.scales.specs.Scales.{named}
-use Rattle.blocks.specs.declared.answer.Judged.{Judged}
-use Rattle.blocks.specs.declared.answer.Judged.TheVariants as J
 use Rattle.blocks.specs.Judging.{judged}
 use Rattle.opened.specs.Opened.{coefficients_in}
-use Rattle.scales.specs.declared.answer.Read.{Read}
-use Rattle.scales.specs.declared.answer.Read.TheVariants as R
 use Rattle.dates.specs.declared.reading.Reading.{Reading}
 use Rattle.dates.specs.Readings.{in_range, read_of, purpose_of}
-use Rattle.walk.specs.declared.kept.Kept.{Kept}
-use Rattle.walk.specs.declared.kept.Kept.TheVariants.{Nothing, Table}
 use Rattle.walk.specs.Walk.{walk_between}
-use Rattle.desk.specs.Order.{Check, passes, refuses, settled}
-use Rattle.desk.specs.Order.{leaps_fit, leaps_right}
+use Rattle.desk.specs.Order.{Check, passes, refuses, settled, leaps_fit, leaps_right}
 
 -- what is answered where all is settled, else the refusal
 abbrev pub answering : Check → Answer → Answer
 answering passes answer = answer
-answering (refuses refusal) answer = Refused refusal
+answering (refuses refusal) answer = Err refusal
 
 -- on from what was read
 abbrev pub started : (ℤ → Answer) → Read → Answer
-started walk (R.Tick tick) = walk tick
-started walk (R.Refused refusal) = Refused refusal
+started walk (Ok tick) = walk tick
+started walk (Err refusal) = Err refusal
 
 -- 'then 2 over both parts, 3 over both parts .., 4, then step by step, 6 before 4'
-unfoldable pub between_of : Scale → Scale → Read → Kept → List ℤ → Answer
+unfoldable pub between_of : Scale → Scale → Read → Option Table → List ℤ → Answer
 between_of from to read kept coefficients = started (walk_between kept coefficients from to) read
 
 -- the table that bytes hold, where they are accepted
-abbrev pub held_by : Judged → Kept
-held_by (J.Accepted table) = Table table
-held_by (J.Refused refusal) = Nothing
+abbrev pub held_by : Judged → Option Table
+held_by (Ok table) = Some table
+held_by (Err refusal) = None
 
 -- a conversion of what was read, over table bytes that were judged and the coefficients that they
 -- hold: what each code is read for, the codes, and whether the lent lists fit and are right

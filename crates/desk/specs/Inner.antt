@@ -1,28 +1,24 @@
 -- What the inner functions ask of their callers, and what they give.
-use Rattle.std.specs.Prelude.{Bool, cond, List, [], ◌∷◌, ℕ, ℤ}
-use Rattle.scales.specs.declared.answer.Answer.{Answer}
-use Rattle.scales.specs.declared.answer.Answer.TheVariants.{Refused}
+use Rattle.scales.specs.Answers.{Read, Answer}
+use Rattle.blocks.specs.Answers.{Judged}
+use Rattle.std.specs.Prelude.{Err, None, Ok, Some, Bool, cond, List, [], ◌∷◌, ℕ, ℤ}
 use Rattle.scales.specs.declared.scale.Purpose.{Purpose}
 use Rattle.scales.specs.declared.scale.Scale.{Scale}
 use Rattle.scales.specs.Path.{crosses}
 use Rattle.scales.specs.Scales.{named}
 use Rattle.image.specs.declared.table.Table.{Table}
 use Rattle.image.specs.Image.{coefficients_stored}
-use Rattle.blocks.specs.declared.answer.Judged.{Judged}
 use Rattle.blocks.specs.Judging.{judged}
 use Rattle.opened.specs.Opened.{coefficients_in}
-use Rattle.scales.specs.declared.answer.Read.{Read}
 use Rattle.desk.specs.declared.asked.Asked.{Asked}
 use Rattle.desk.specs.declared.asked.Asked.TheVariants as A
-use Rattle.walk.specs.declared.kept.Kept.TheVariants as K
-use Rattle.desk.specs.Order.{Check, passes, refuses, unless, first_of}
-use Rattle.desk.specs.Order.{before_table, of_table}
+use Rattle.desk.specs.Order.{Check, passes, refuses, unless, first_of, before_table, of_table}
 use Rattle.desk.specs.Conversion.{answering, between_of, held_by}
 
 -- ---- what is asked, before any table or reading is looked at
 abbrev pub asked_by : Check → Scale → Scale → Asked
-asked_by passes start end = cond (crosses start end) (A.Crossing start end) (A.Plain start end)
-asked_by (refuses refusal) start end = A.Refused refusal
+asked_by passes start end = cond (crosses start end) (Ok (A.Crossing start end)) (Ok (A.Plain start end))
+asked_by (refuses refusal) start end = Err refusal
 
 unfoldable pub asked_of : Purpose → Purpose → ℕ → ℕ → Bool → Bool → Asked
 asked_of reads writes from to fits right =
@@ -38,15 +34,15 @@ crossed_of from to read table coefficients =
     answering (of_table table) (between_of from to read (held_by table) coefficients)
 
 abbrev pub convert_asked : Asked → Read → Judged → List ℤ → Answer
-convert_asked (A.Plain from to) read table coefficients = between_of from to read K.Nothing []
-convert_asked (A.Crossing from to) read table coefficients =
+convert_asked (Ok (A.Plain from to)) read table coefficients = between_of from to read None []
+convert_asked (Ok (A.Crossing from to)) read table coefficients =
     crossed_of from to read table coefficients
-convert_asked (A.Refused refusal) read table coefficients = Refused refusal
+convert_asked (Err refusal) read table coefficients = Err refusal
 
 -- ---- over bytes
 abbrev pub taken_over : Scale → Scale → Read → List ℕ → Table → Answer
 taken_over from to read bytes table =
-    between_of from to read (K.Table table) (coefficients_stored bytes table.count table.degree)
+    between_of from to read (Some table) (coefficients_stored bytes table.count table.degree)
 
 abbrev pub over_bytes : Scale → Scale → Read → List ℕ → Answer
 over_bytes from to read bytes = crossed_of from to read (judged bytes) (coefficients_in bytes)

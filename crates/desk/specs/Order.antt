@@ -1,16 +1,15 @@
 -- 'Order: 1 (from, then to), 8, then the table 10 to 16 if the path crosses TT to TDB, .., then 2
 -- ..', and of UTC '7 .. after 8 and before 10': what is settled before a reading is looked at, in
 -- this order, for one reading, for a line and for a batch.
-use Rattle.std.specs.Prelude.{Bool, true, false, cond, not, ◌||◌, List, [], ◌∷◌, ◌++◌, ℕ, ◌%◌, eqb}
-use Rattle.std.specs.Prelude.{ℤ, length}
+use Rattle.blocks.specs.Answers.{Judged}
+use Rattle.std.specs.Prelude.{Err, Ok, Bool, true, false, cond, not, ◌||◌, List, [], ◌∷◌, ◌++◌, ℕ}
+use Rattle.std.specs.Prelude.{◌%◌, eqb, ℤ, length}
 use Rattle.scales.specs.declared.refusal.Refusal.{Refusal}
 use Rattle.scales.specs.declared.scale.Purpose.{Purpose}
 use Rattle.scales.specs.declared.scale.Purpose.TheVariants.{Reading, Batch, Line, Utc}
 use Rattle.scales.specs.Path.{crosses}
 use Rattle.scales.specs.Scales.{is_code, named}
 use Rattle.utc.specs.Leaps.{is_list_right}
-use Rattle.blocks.specs.declared.answer.Judged.{Judged}
-use Rattle.blocks.specs.declared.answer.Judged.TheVariants as J
 
 -- what a check says: that it passes, or what it refuses with
 pub data Check : Type 0 where
@@ -39,8 +38,8 @@ before_table reads writes from to fits right =
 
 -- what the judgement of table bytes says
 abbrev pub of_table : Judged → Check
-of_table (J.Accepted table) = passes
-of_table (J.Refused refusal) = refuses refusal
+of_table (Ok table) = passes
+of_table (Err refusal) = refuses refusal
 
 -- 'if the path crosses TT to TDB'
 abbrev pub if_crossed : ℕ → ℕ → Check → Check

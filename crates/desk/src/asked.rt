@@ -5,36 +5,35 @@ ghost use Rattle.desk.specs.Inner.{asked_by, asked_of, lent_checks};
 
 use scales::path::crosses_table;
 use scales::refusal::Refusal;
-use scales::scale::{Named, Purpose, Scale, scale_of};
+use scales::scale::{Purpose, Scale, scale_of};
 
-// A path that needs no table, or one that crosses TT to TDB, from the first scale to the second; or
-// refusal 1, 8 or 7.
-#[derive(Clone, Copy)]
+// A path that needs no table, or one that crosses TT to TDB, from the first scale to the second.
+#[derive(Clone, Copy, Debug, PartialEq, Eq)]
 pub enum Asked {
     Plain(Scale, Scale),
     Crossing(Scale, Scale),
-    Refused(Refusal),
 }
 
-fn asked_between(start: Scale, end: Scale, fits: bool, right: bool) -> Asked
+// Refusal 8, then 7, or the path from scale to scale.
+fn asked_between(start: Scale, end: Scale, fits: bool, right: bool) -> Result<Asked, Refusal>
     ensures { result ≡ asked_by (lent_checks fits right) start end }
 {
     if !fits {
-        return Asked::Refused(Refusal {
+        return Err(Refusal {
             number: 8,
             place: 0,
         });
     }
     if !right {
-        return Asked::Refused(Refusal {
+        return Err(Refusal {
             number: 7,
             place: 0,
         });
     }
     if crosses_table(start, end) {
-        return Asked::Crossing(start, end);
+        return Ok(Asked::Crossing(start, end));
     }
-    Asked::Plain(start, end)
+    Ok(Asked::Plain(start, end))
 }
 
 // 'Order: 1 (from, then to), 8, ..', then 7: what each code is read for, and whether the lent
@@ -46,14 +45,10 @@ pub fn asked_of(
     to: u32,
     fits: bool,
     right: bool,
-) -> Asked
+) -> Result<Asked, Refusal>
     ensures { result ≡ asked_of reads writes from to fits right }
 {
-    match scale_of(reads, from, 0) {
-        Named::Refused(refusal) => Asked::Refused(refusal),
-        Named::Scale(start) => match scale_of(writes, to, 1) {
-            Named::Refused(refusal) => Asked::Refused(refusal),
-            Named::Scale(end) => asked_between(start, end, fits, right),
-        },
-    }
+    let start = scale_of(reads, from, 0)?;
+    let end = scale_of(writes, to, 1)?;
+    asked_between(start, end, fits, right)
 }

@@ -2,7 +2,6 @@
 // TDB, .. then 2 .., 3 .., 4, then step by step, 6 before 4.' Of UTC 8 and 7 come before the table,
 // and 5 after 3.
 ghost use Rattle.std.specs.Prelude.{◌≡◌};
-ghost use Rattle.scales.specs.declared.answer.Read.TheVariants as R;
 ghost use Rattle.walk.specs.Inner.{Held};
 ghost use Rattle.opened.specs.Opened.{Opened, Lent};
 ghost use Rattle.desk.specs.Conversion.{between_of, convert_into, convert_of, convert_judged};
@@ -10,69 +9,61 @@ ghost use Rattle.desk.specs.Inner.{asked_over, crossed_of, over_bytes, taken_ove
 
 use crate::asked::{Asked, asked_of};
 use crate::leaps::asked_over;
-use blocks::answer::Judged;
 use blocks::judging::judge;
 use dates::reading::{Reading, purpose_of, ranged, tick_of};
 use image::table::Table;
 use opened::{how_many, taken};
-use scales::answer::{Answer, Epoch, Read};
+use scales::answer::{Converted, Epoch};
 use scales::path::is_one_scale;
 use scales::refusal::Refusal;
 use scales::scale::{Purpose, Scale};
-use walk::kept::Kept;
 use walk::walk::walk;
 
 // What was read, walked. The coefficients are those of the table that is kept.
-pub fn between(from: Scale, to: Scale, read: Read, kept: Kept, coefficients: &[i64]) -> Answer
+pub fn between(from: Scale, to: Scale, read: Result<i64, Refusal>, kept: Option<Table>, coefficients: &[i64]) -> Result<Converted, Refusal>
     requires { Held kept coefficients.now }
     ensures { result ≡ between_of from to read kept coefficients.now }
 {
-    match read {
-        Read::Tick(tick) => walk(from, to, tick, kept, coefficients),
-        Read::Refused(refusal) => Answer::Refused(refusal),
-    }
+    let tick = read?;
+    walk(from, to, tick, kept, coefficients)
 }
 
 // Over the table that the bytes hold. They have been judged and accepted.
-fn taken_over(from: Scale, to: Scale, read: Read, bytes: &[u8], table: Table) -> Answer
+fn taken_over(from: Scale, to: Scale, read: Result<i64, Refusal>, bytes: &[u8], table: Table) -> Result<Converted, Refusal>
     requires { Opened bytes.now table }
     ensures { result ≡ taken_over from to read bytes.now table }
 {
     let coefficients = taken(bytes, table);
     let many = how_many(table);
-    between(from, to, read, Kept::Table(table), &coefficients[..many])
+    between(from, to, read, Some(table), &coefficients[..many])
 }
 
 // Over any bytes. This has room for the largest table, which no other conversion should pay for: a
 // compiler keeps it apart as long as two functions call it, one for a tick and one for a refusal.
-fn over_bytes(from: Scale, to: Scale, read: Read, bytes: &[u8]) -> Answer
+fn over_bytes(from: Scale, to: Scale, read: Result<i64, Refusal>, bytes: &[u8]) -> Result<Converted, Refusal>
     ensures { result ≡ over_bytes from to read bytes.now }
 {
-    match judge(bytes) {
-        Judged::Accepted(table) => taken_over(from, to, read, bytes, table),
-        Judged::Refused(refusal) => Answer::Refused(refusal),
-    }
+    let table = judge(bytes)?;
+    taken_over(from, to, read, bytes, table)
 }
 
 // A tick that was read, walked; over the table if the path crosses.
-fn convert_tick(asked: Asked, tick: i64, table: &[u8]) -> Answer
-    ensures { result ≡ asked_over asked (R.Tick tick) table.now }
+fn convert_tick(asked: Asked, tick: i64, table: &[u8]) -> Result<Converted, Refusal>
+    ensures { result ≡ asked_over asked (Ok tick) table.now }
 {
     match asked {
-        Asked::Plain(start, end) => walk(start, end, tick, Kept::Nothing, &[]),
-        Asked::Crossing(start, end) => over_bytes(start, end, Read::Tick(tick), table),
-        Asked::Refused(refusal) => Answer::Refused(refusal),
+        Asked::Plain(start, end) => walk(start, end, tick, None, &[]),
+        Asked::Crossing(start, end) => over_bytes(start, end, Ok(tick), table),
     }
 }
 
 // A reading that was refused: the table's refusals come before it.
-fn refuse(asked: Asked, refusal: Refusal, table: &[u8]) -> Answer
-    ensures { result ≡ asked_over asked (R.Refused refusal) table.now }
+fn refuse(asked: Asked, refusal: Refusal, table: &[u8]) -> Result<Converted, Refusal>
+    ensures { result ≡ asked_over asked (Err refusal) table.now }
 {
     match asked {
-        Asked::Plain(_, _) => Answer::Refused(refusal),
-        Asked::Crossing(start, end) => over_bytes(start, end, Read::Refused(refusal), table),
-        Asked::Refused(earlier) => Answer::Refused(earlier),
+        Asked::Plain(_, _) => Err(refusal),
+        Asked::Crossing(start, end) => over_bytes(start, end, Err(refusal), table),
     }
 }
 
@@ -88,41 +79,38 @@ pub fn convert_into(
     reading: Reading,
     leaps: &[i64],
     table: &[u8],
-) -> Answer
+) -> Result<Converted, Refusal>
     ensures { result ≡ convert_into writes from to reading leaps.now table.now }
 {
-    let asked = asked_over(purpose_of(reading), writes, from, to, leaps);
-    if let Asked::Refused(refusal) = asked {
-        return Answer::Refused(refusal);
-    }
+    let asked = asked_over(purpose_of(reading), writes, from, to, leaps)?;
     match tick_of(reading, leaps) {
-        Read::Tick(tick) => {
+        Ok(tick) => {
             if let Asked::Plain(start, end) = asked {
                 if is_one_scale(start, end) {
-                    return Answer::Converted(Epoch { scale: start, tick }, 0);
+                    return Ok(Converted {
+                        epoch: Epoch { scale: start, tick },
+                        steps: 0,
+                    });
                 }
             }
             convert_tick(asked, tick, table)
         }
-        Read::Refused(refusal) => refuse(asked, refusal, table),
+        Err(refusal) => refuse(asked, refusal, table),
     }
 }
 
 // The same into ticks.
-pub fn convert(from: u32, to: u32, reading: Reading, leaps: &[i64], table: &[u8]) -> Answer
+pub fn convert(from: u32, to: u32, reading: Reading, leaps: &[i64], table: &[u8]) -> Result<Converted, Refusal>
     ensures { result ≡ convert_of from to reading leaps.now table.now }
 {
     convert_into(Purpose::Reading, from, to, reading, leaps, table)
 }
 
-fn crossed(from: Scale, to: Scale, read: Read, judged: Judged, coefficients: &[i64]) -> Answer
+fn crossed(from: Scale, to: Scale, read: Result<i64, Refusal>, judged: Result<Table, Refusal>, coefficients: &[i64]) -> Result<Converted, Refusal>
     requires { Lent judged coefficients.now }
     ensures { result ≡ crossed_of from to read judged coefficients.now }
 {
-    match judged {
-        Judged::Accepted(table) => between(from, to, read, Kept::Table(table), coefficients),
-        Judged::Refused(refusal) => Answer::Refused(refusal),
-    }
+    between(from, to, read, Some(judged?), coefficients)
 }
 
 // The same of a tick over table bytes that have been judged, for callers that convert line by line.
@@ -132,17 +120,16 @@ pub fn convert_judged(
     from: u32,
     to: u32,
     tick: i64,
-    judged: Judged,
+    judged: Result<Table, Refusal>,
     coefficients: &[i64],
-) -> Answer
+) -> Result<Converted, Refusal>
     requires { Lent judged coefficients.now }
     ensures { result
         ≡ convert_judged purpose from to tick judged coefficients.now }
 {
     let read = ranged(tick);
-    match asked_of(purpose, purpose, from, to, true, true) {
-        Asked::Plain(start, end) => between(start, end, read, Kept::Nothing, &[]),
+    match asked_of(purpose, purpose, from, to, true, true)? {
+        Asked::Plain(start, end) => between(start, end, read, None, &[]),
         Asked::Crossing(start, end) => crossed(start, end, read, judged, coefficients),
-        Asked::Refused(refusal) => Answer::Refused(refusal),
     }
 }

@@ -1,6 +1,9 @@
 -- Accepted ticks form an interval: between two ticks of a scale that are both converted to another
 -- there is none that is refused. By induction over the path, from the law of one step. Assumes
 -- nothing.
+use Rattle.scales.specs.Answers.{Answer, converted_to}
+use Rattle.image.specs.declared.table.Table.{Table}
+use Rattle.std.specs.Prelude.{Err, Ok, Option}
 use mathlib.Core.Path.{◌≡◌, refl, ◌∙◌, ap}
 use mathlib.Core.Bool.{Bool, true, false, not, cond}
 use mathlib.Core.List.{List, [], ◌∷◌}
@@ -12,19 +15,14 @@ use Rattle.numbers.proofs.Differences.{rep₂, lin}
 use Rattle.numbers.proofs.Flags.{never}
 use Rattle.numbers.proofs.Machine.{lt_yes, lt_no}
 use Rattle.numbers.proofs.Order.{≤_trans}
-use Rattle.scales.specs.declared.answer.Answer.{Answer}
-use Rattle.scales.specs.declared.answer.Answer.TheVariants.{Converted, Refused}
 use Rattle.scales.specs.declared.answer.Epoch.{Epoch}
 use Rattle.scales.specs.declared.path.Step.{Step}
 use Rattle.scales.specs.declared.scale.Scale.{Scale}
 use Rattle.scales.specs.Path.{path, steps}
 use Rattle.scales.specs.Tick.{is_valid}
-use Rattle.scales.specs.declared.answer.Read.TheVariants as R
 use Rattle.dates.specs.Readings.{in_range}
 use Rattle.dates.specs.Readings as readings
-use Rattle.entries.specs.declared.batched.Batched.TheVariants as Batched
 use Rattle.entries.specs.declared.trying.Ends.{Ends}
-use Rattle.walk.specs.declared.kept.Kept.{Kept}
 use Rattle.entries.specs.Entries.{entry_of, tried_of, all_tried}
 use Rattle.desk.specs.Conversion.{started, between_of}
 use Rattle.walk.specs.Inner.{Held}
@@ -35,11 +33,11 @@ use Rattle.walk.proofs.Steps.{not_both, Answered, stepping}
 
 -- an answer that is found accepted
 accepted_told : (answer : Answer) → is_accepted answer ≡ true → Answered answer
-accepted_told (Converted epoch n) e = (epoch, n, refl)
-accepted_told (Refused refusal) e = never e
+accepted_told (Ok converted) e = (converted.epoch, converted.steps, refl)
+accepted_told (Err refusal) e = never e
 
 -- ---- along a walk
-module _ (kept : Kept) (cs : List ℤ) where
+module _ (kept : Option Table) (cs : List ℤ) where
   walk_within : Held kept cs → (way : List Step) (done : ℕ) (t u v : Epoch) → Answered (walk_of kept cs way done t)
       → Answered (walk_of kept cs way done v) → t.tick ≤ℤ u.tick → u.tick ≤ℤ v.tick
       → Answered (walk_of kept cs way done u)
@@ -64,7 +62,7 @@ module _ (kept : Kept) (cs : List ℤ) where
     unfolding between_of in_range
     read_accepted t a = by (is_valid t) a.2
       where
-        by : (valid : Bool) → started walk (readings.refused_if (not valid) 4 0 (R.Tick t)) ≡ Converted a.0 a.1
+        by : (valid : Bool) → started walk (readings.refused_if (not valid) 4 0 (Ok t)) ≡ converted_to a.0 a.1
             → (valid ≡ true) × Answered (walk t)
         by true e = (refl, (a.0, a.1, e))
         by false e = not_both refl e
@@ -114,13 +112,13 @@ around earliest latest (tick ∷ more) =
     )
 
 -- so that where both are accepted all are
-module _ (kept : Kept) (cs : List ℤ) (h : Held kept cs) (from to : Scale) where
+module _ (kept : Option Table) (cs : List ℤ) (h : Held kept cs) (from to : Scale) where
   abbrev entry : ℤ → Answer
   entry tick = entry_of from to kept cs tick
 
   tried_within : (earliest latest : ℤ) (index : ℕ) (ticks : List ℤ)
       → let ends = ends_of earliest latest ticks in Answered (entry ends.earliest) → Answered (entry ends.latest)
-      → tried_of entry (steps from to) index ticks ≡ Batched.Converted (steps from to)
+      → tried_of entry (steps from to) index ticks ≡ Ok (steps from to)
   unfolding tried_of ends_of
   tried_within earliest latest index [] early late = refl
   tried_within earliest latest index (tick ∷ more) early late =
@@ -135,6 +133,6 @@ module _ (kept : Kept) (cs : List ℤ) (h : Held kept cs) (from to : Scale) wher
 
   pub ends_accepted : (first : ℤ) (ticks : List ℤ) (ends : Ends) → ends ≡ ends_of first first ticks
       → is_accepted (entry ends.earliest) ≡ true
-      → is_accepted (entry ends.latest) ≡ true → all_tried from to ticks kept cs ≡ Batched.Converted (steps from to)
+      → is_accepted (entry ends.latest) ≡ true → all_tried from to ticks kept cs ≡ Ok (steps from to)
   ends_accepted first ticks ends are early late =
       tried_within first first 0 ticks (rw are at (accepted_told (entry ends.earliest) early)) (rw are at (accepted_told (entry ends.latest) late))

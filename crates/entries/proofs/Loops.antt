@@ -1,5 +1,9 @@
 -- The laws of the loops over entries: how those that are left are tried, and the ends of a list.
 -- Assumes nothing.
+use Rattle.scales.specs.Answers.{Answer, converted_to}
+use Rattle.image.specs.declared.table.Table.{Table}
+use Rattle.entries.specs.Batched.{refused_at}
+use Rattle.std.specs.Prelude.{Err, Ok, Option}
 use mathlib.Core.Path.{◌≡◌, refl, ◌∙◌}
 use mathlib.Core.List.{List}
 use Prim.Native.Nat.{ℕ, ◌+◌, ◌≤◌, ◌<◌}
@@ -7,13 +11,10 @@ use native.Mathlib.Numerals.{add-one}
 use lib.IntN.{ℤ, pos}
 use lib.ListN.{length, get_or, drop, drop_of_length-le}
 use lib.Seq.{drop-cons}
-use Rattle.scales.specs.declared.answer.Answer.{Answer}
 use Rattle.scales.specs.declared.answer.Epoch.{Epoch}
 use Rattle.scales.specs.declared.refusal.Refusal.{Refusal}
 use Rattle.scales.specs.declared.scale.Scale.{Scale}
 use Rattle.dates.specs.Readings.{in_range}
-use Rattle.entries.specs.declared.batched.Batched.TheVariants.{Converted, Refused}
-use Rattle.walk.specs.declared.kept.Kept.{Kept}
 use Rattle.desk.specs.Conversion.{between_of}
 use Rattle.entries.specs.Entries.{entry_of, earlier, tried_of}
 use Rattle.entries.specs.Inner.{sooner_of, later_of, ends_of}
@@ -26,16 +27,16 @@ module _ (entry : ℤ → Answer) (steps : ℕ) (ticks : List ℤ) (index : ℕ)
   next_tried h = rw (drop-cons ticks index (pos 0) h, add-one)
 
   pub accepted_goes_on : (epoch : Epoch) (many : ℕ) → index < length ticks
-      → entry (get_or ticks index (pos 0)) ≡ Answer.Converted epoch many
+      → entry (get_or ticks index (pos 0)) ≡ converted_to epoch many
       → tried_of entry steps index (drop index ticks) ≡ tried_of entry steps (index + 1) (drop (index + 1) ticks)
   accepted_goes_on epoch many h e = next_tried h ∙ rw e
 
   pub refused_stops : (refusal : Refusal) → index < length ticks
-      → entry (get_or ticks index (pos 0)) ≡ Answer.Refused refusal
-      → tried_of entry steps index (drop index ticks) ≡ Refused refusal index
+      → entry (get_or ticks index (pos 0)) ≡ Err refusal
+      → tried_of entry steps index (drop index ticks) ≡ refused_at refusal index
   refused_stops refusal h e = next_tried h ∙ rw e
 
-  pub none_left : length ticks ≤ index → tried_of entry steps index (drop index ticks) ≡ Converted steps
+  pub none_left : length ticks ≤ index → tried_of entry steps index (drop index ticks) ≡ Ok steps
   unfolding tried_of
   none_left h = rw (drop_of_length-le ticks h)
 
@@ -53,6 +54,6 @@ module _ (earliest latest : ℤ) (ticks : List ℤ) (index : ℕ) where
   no_wider h = rw (drop_of_length-le ticks h)
 
 -- ---- an entry is read as the tick that it is
-pub entry_read : (from to : Scale) (kept : Kept) (coefficients : List ℤ) (tick : ℤ)
+pub entry_read : (from to : Scale) (kept : Option Table) (coefficients : List ℤ) (tick : ℤ)
     → between_of from to (in_range tick) kept coefficients ≡ entry_of from to kept coefficients tick
 entry_read from to kept coefficients tick = refl

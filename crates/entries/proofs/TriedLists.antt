@@ -1,5 +1,8 @@
 -- What trying a list tells: that every entry is accepted, or the first that is refused. Assumes
 -- nothing.
+use Rattle.entries.specs.Batched.{Batched, refused_at}
+use Rattle.scales.specs.Answers.{Answer, converted_to}
+use Rattle.std.specs.Prelude.{Err, Ok}
 use mathlib.Core.Path.{◌≡◌, refl, ◌∙◌, ap}
 use mathlib.Core.List.{List, [], ◌∷◌}
 use Prim.Native.Nat.{ℕ, zero, suc, ◌+◌, ◌<◌}
@@ -7,18 +10,14 @@ use native.Mathlib.Nat.{not-suc-le-zero, le_of_suc-le-suc}
 use native.Mathlib.Omega.{arith}
 use lib.IntN.{ℤ, pos}
 use lib.ListN.{length, get_or}
-use Rattle.scales.specs.declared.answer.Answer.{Answer}
 use Rattle.scales.specs.declared.answer.Epoch.{Epoch}
 use Rattle.scales.specs.declared.refusal.Refusal.{Refusal}
-use Rattle.entries.specs.declared.batched.Batched.{Batched}
-use Rattle.entries.specs.declared.batched.Batched.TheVariants.{Converted, Refused}
 use Rattle.entries.specs.Entries.{earlier, tried_of}
-use Rattle.walk.proofs.Steps.{Answered}
 use Rattle.walk.proofs.Steps.{Answered}
 
 -- a batch is accepted or refused, never both
-pub never_both : {P : Type 0} {answer : Batched} {refusal : Refusal} {index n : ℕ} → answer ≡ Refused refusal index
-    → answer ≡ Converted n → P
+pub never_both : {P : Type 0} {answer : Batched} {refusal : Refusal} {index n : ℕ} → answer ≡ refused_at refusal index
+    → answer ≡ Ok n → P
 never_both r e = let z : ◌≡◌ {A = ℕ} 0 1 = cc in let no : ⊥ = omega arith in absurd no
 
 -- ---- trying a list
@@ -29,7 +28,7 @@ AllAccepted entry ticks bound = (i : ℕ) → i < bound → Answered (entry (get
 -- the first entry that is refused, and its refusal
 pub record FirstRefused (entry : ℤ → Answer) (ticks : List ℤ) (refusal : Refusal) (place : ℕ) : Type 0 where
   pub inside : place < length ticks
-  pub refuses : entry (get_or ticks place (pos 0)) ≡ Answer.Refused refusal
+  pub refuses : entry (get_or ticks place (pos 0)) ≡ Err refusal
   pub before : AllAccepted entry ticks place
 
 -- what trying a list tells, where it tells a refusal at an index: the list's first refused entry,
@@ -39,36 +38,36 @@ ToldFirst entry ticks index refusal told = (place : ℕ) × (told ≡ index + pl
 
 module _ (entry : ℤ → Answer) (tick : ℤ) (more : List ℤ) where
   -- one accepted entry before the others
-  accepted_first : (epoch : Epoch) (n bound : ℕ) → entry tick ≡ Answer.Converted epoch n → AllAccepted entry more bound
+  accepted_first : (epoch : Epoch) (n bound : ℕ) → entry tick ≡ converted_to epoch n → AllAccepted entry more bound
       → AllAccepted entry (tick ∷ more) (suc bound)
   accepted_first epoch n bound e rest zero h = (epoch, n, e)
   accepted_first epoch n bound e rest (suc i) h = rest i (le_of_suc-le-suc h)
 
   accepted_cons : (answer : Answer) (index many : ℕ) {n : ℕ} (later : Batched) → entry tick ≡ answer
-      → (later ≡ Converted n → (n ≡ many) × AllAccepted entry more (length more))
-      → earlier answer index later ≡ Converted n
+      → (later ≡ Ok n → (n ≡ many) × AllAccepted entry more (length more))
+      → earlier answer index later ≡ Ok n
       → (n ≡ many) × AllAccepted entry (tick ∷ more) (suc (length more))
-  accepted_cons (Answer.Converted epoch m) index many later d rest e = let r = rest e in (r.0, accepted_first epoch m (length more) d r.1)
-  accepted_cons (Answer.Refused refusal) index many later d rest e = never_both refl e
+  accepted_cons (Ok converted) index many later d rest e = let r = rest e in (r.0, accepted_first converted.epoch converted.steps (length more) d r.1)
+  accepted_cons (Err refusal) index many later d rest e = never_both refl e
 
   refused_cons : (answer : Answer) (index : ℕ) {refusal : Refusal} {told : ℕ} (later : Batched) → entry tick ≡ answer
-      → (later ≡ Refused refusal told → ToldFirst entry more (suc index) refusal told)
-      → earlier answer index later ≡ Refused refusal told
+      → (later ≡ refused_at refusal told → ToldFirst entry more (suc index) refusal told)
+      → earlier answer index later ≡ refused_at refusal told
       → ToldFirst entry (tick ∷ more) index refusal told
-  refused_cons (Answer.Converted epoch m) index later d rest e =
+  refused_cons (Ok converted) index later d rest e =
       let r = rest e in
       let f = r.2 in
       let h = f.inside in
       let k = r.1 in
-      (suc r.0, omega arith, record { inside = omega arith; refuses = f.refuses; before = accepted_first epoch m r.0 d f.before })
-  refused_cons (Answer.Refused first) index {refusal} {told} later d rest e =
+      (suc r.0, omega arith, record { inside = omega arith; refuses = f.refuses; before = accepted_first converted.epoch converted.steps r.0 d f.before })
+  refused_cons (Err first) index {refusal} {told} later d rest e =
       let same : first ≡ refusal = cc in
       let here : told ≡ index = cc in
-      (0, omega arith, record { inside = omega arith; refuses = d ∙ ap Answer.Refused same; before = λ i h. absurd (not-suc-le-zero h) })
+      (0, omega arith, record { inside = omega arith; refuses = d ∙ ap Err same; before = λ i h. absurd (not-suc-le-zero h) })
 
 module _ (entry : ℤ → Answer) (many : ℕ) where
   -- 'All are tried first': where a list is accepted, each of its entries is
-  pub tried_accepted : (index : ℕ) (ticks : List ℤ) {n : ℕ} → tried_of entry many index ticks ≡ Converted n
+  pub tried_accepted : (index : ℕ) (ticks : List ℤ) {n : ℕ} → tried_of entry many index ticks ≡ Ok n
       → (n ≡ many) × AllAccepted entry ticks (length ticks)
   unfolding tried_of
   tried_accepted index [] e = (cc, λ i h. absurd (not-suc-le-zero h))
@@ -76,7 +75,7 @@ module _ (entry : ℤ → Answer) (many : ℕ) where
 
   -- 'the earliest refusal is the batch's, with its index'
   pub tried_refused : (index : ℕ) (ticks : List ℤ) {refusal : Refusal} {told : ℕ}
-      → tried_of entry many index ticks ≡ Refused refusal told
+      → tried_of entry many index ticks ≡ refused_at refusal told
       → ToldFirst entry ticks index refusal told
   unfolding tried_of
   tried_refused index [] e = never_both e refl

@@ -1,7 +1,7 @@
 -- What trying the entries goes through: the ends of a list, and whether an answer is accepted.
-use Rattle.std.specs.Prelude.{Bool, true, false, cond, List, [], ◌∷◌, ℤ}
+use Rattle.scales.specs.Answers.{Answer, converted_to}
+use Rattle.std.specs.Prelude.{Err, Bool, true, false, cond, List, [], ◌∷◌, ℤ, Ok}
 use Rattle.std.specs.Int.Signed.{lt_z}
-use Rattle.scales.specs.declared.answer.Answer.{Answer}
 use Rattle.entries.specs.declared.trying.Ends.{Ends}
 
 -- of two ticks the earlier, and the later
@@ -19,5 +19,5 @@ ends_of earliest latest (tick ∷ more) =
 
 -- an answer that is no refusal
 abbrev pub is_accepted : Answer → Bool
-is_accepted (Answer.Converted epoch steps) = true
-is_accepted (Answer.Refused refusal) = false
+is_accepted (Ok converted) = true
+is_accepted (Err refusal) = false

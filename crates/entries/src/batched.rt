@@ -1,9 +1,9 @@
-// What a batch answers.
+// What a batch is refused with.
 use scales::refusal::Refusal;
 
-// 'An accepted batch answers the path's steps', or a refusal with its index.
-#[derive(Clone, Copy)]
-pub enum Batched {
-    Converted(u32),
-    Refused(Refusal, u64),
+// 'the earliest refusal is the batch's, with its index'
+#[derive(Clone, Copy, Debug, PartialEq, Eq)]
+pub struct RefusedAt {
+    pub refusal: Refusal,
+    pub index: u64,
 }

@@ -4,13 +4,12 @@ ghost use Rattle.walk.specs.Inner.{Held};
 ghost use Rattle.entries.specs.Entries.{all_tried, entry_of};
 ghost use Rattle.entries.specs.Inner.{sooner_of, later_of, ends_of, is_accepted};
 
-use crate::batched::Batched;
+use crate::batched::RefusedAt;
 use dates::reading::ranged;
 use desk::conversion::between;
-use scales::answer::Answer;
+use image::table::Table;
 use scales::path::steps_between;
 use scales::scale::Scale;
-use walk::kept::Kept;
 
 // The earliest and the latest tick of a list.
 #[derive(Clone, Copy)]
@@ -56,39 +55,33 @@ fn ends_of(first: i64, ticks: &[i64]) -> Ends
 }
 
 // Whether a tick is accepted.
-fn is_accepted(from: Scale, to: Scale, tick: i64, kept: Kept, coefficients: &[i64]) -> bool
+fn is_accepted(from: Scale, to: Scale, tick: i64, kept: Option<Table>, coefficients: &[i64]) -> bool
     requires { Held kept coefficients.now }
     ensures { result ≡ is_accepted (entry_of from to kept coefficients.now tick) }
 {
-    match between(from, to, ranged(tick), kept, coefficients) {
-        Answer::Converted(_, _) => true,
-        Answer::Refused(_) => false,
-    }
+    between(from, to, ranged(tick), kept, coefficients).is_ok()
 }
 
 // Tries the entries one by one: the earliest refusal, or the path's steps.
-fn tried_each(from: Scale, to: Scale, ticks: &[i64], kept: Kept, coefficients: &[i64]) -> Batched
+fn tried_each(from: Scale, to: Scale, ticks: &[i64], kept: Option<Table>, coefficients: &[i64]) -> Result<u32, RefusedAt>
     requires { Held kept coefficients.now }
     ensures { result ≡ all_tried from to ticks.now kept coefficients.now }
 {
-    let mut index = 0;
-    while index < ticks.len() {
-        let tick = ticks[index];
-        match between(from, to, ranged(tick), kept, coefficients) {
-            Answer::Refused(refusal) => {
-                return Batched::Refused(refusal, index as u64);
-            }
-            Answer::Converted(_, _) => {}
+    for (index, tick) in ticks.iter().enumerate() {
+        if let Err(refusal) = between(from, to, ranged(*tick), kept, coefficients) {
+            return Err(RefusedAt {
+                refusal,
+                index: index as u64,
+            });
         }
-        index += 1;
     }
-    Batched::Converted(steps_between(from, to))
+    Ok(steps_between(from, to))
 }
 
 // Tries every entry: the earliest refusal, or the path's steps. The coefficients are those of the
 // table that is kept. Accepted ticks form an interval (see proofs/Interval), so that where the
 // earliest and the latest are accepted the others need not be walked.
-pub fn tried(from: Scale, to: Scale, ticks: &[i64], kept: Kept, coefficients: &[i64]) -> Batched
+pub fn tried(from: Scale, to: Scale, ticks: &[i64], kept: Option<Table>, coefficients: &[i64]) -> Result<u32, RefusedAt>
     requires { Held kept coefficients.now }
     ensures { result ≡ all_tried from to ticks.now kept coefficients.now }
 {
@@ -100,7 +93,7 @@ pub fn tried(from: Scale, to: Scale, ticks: &[i64], kept: Kept, coefficients: &[
     let earliest = is_accepted(from, to, ends.earliest, kept, coefficients);
     let latest = is_accepted(from, to, ends.latest, kept, coefficients);
     if earliest && latest {
-        return Batched::Converted(steps_between(from, to));
+        return Ok(steps_between(from, to));
     }
     tried_each(from, to, ticks, kept, coefficients)
 }

@@ -18,9 +18,9 @@ use Rattle.image.specs.declared.table.Table.{Table}
 use Rattle.granule.specs.Bounds.{shortest_length, longest_length}
 use Rattle.image.specs.Bounds.{end_of}
 use Rattle.image.proofs.Bounding.{natural, at_least, at_most, as_natural}
-pub use Rattle.image.proofs.Bounding.{not_negative}
 use Rattle.ephemeris.specs.Table.{S, H, last_place}
 use Rattle.ephemeris.specs.Accepted.{Bounded}
+pub use Rattle.image.proofs.Bounding.{not_negative}
 
 -- a tick between two that are valid is no further than they are
 amid : (m n i : ℕ) (s : ℤ) → nat_abs s ≤ m → nat_abs (s +ℤ pos n) ≤ m → i ≤ n → nat_abs (s +ℤ pos i) ≤ m

@@ -16,7 +16,8 @@ use Rattle.granule.proofs.Distance.{delay_within, delay_small}
 use Rattle.image.specs.declared.table.Table.{Table}
 use Rattle.image.specs.Image.{granule_in}
 use Rattle.granules.proofs.Accepting.{accepted_small, accepted_light, accepted_joined}
-use Rattle.ephemeris.specs.Table.{H, last_place, granule_of, place_in, coefficients_of, table_delay, table_exact}
+use Rattle.ephemeris.specs.Table.{H, last_place, granule_of, place_in, coefficients_of, table_delay}
+use Rattle.ephemeris.specs.Table.{table_exact}
 use Rattle.ephemeris.specs.Accepted.{Bounded, Accepted}
 use Rattle.ephemeris.proofs.Bounds.{long, short}
 use Rattle.ephemeris.proofs.Where.{At, at_place}

@@ -14,7 +14,8 @@ use Rattle.numbers.proofs.Chebyshev.{pow_above}
 use Rattle.granule.specs.Rule.{units_in_tick, exact_at}
 use Rattle.granule.proofs.Neighbours.{exact_next, exact_join}
 use Rattle.image.specs.declared.table.Table.{Table}
-use Rattle.ephemeris.specs.Table.{H, last_place, granule_of, place_in, coefficients_of, table_delay, table_exact}
+use Rattle.ephemeris.specs.Table.{H, last_place, granule_of, place_in, coefficients_of, table_delay}
+use Rattle.ephemeris.specs.Table.{table_exact}
 use Rattle.ephemeris.specs.Accepted.{Accepted}
 use Rattle.ephemeris.proofs.Bounds.{long}
 use Rattle.ephemeris.proofs.Granules.{at, granule_passed, meeting, same_degree, delay_exact}

@@ -1,6 +1,8 @@
 -- What is promised of the step over a table, for every tick: which tick the earliest one is and
 -- when the step is refused, over any table; how near to the exact sum, in order, there and back,
 -- over an accepted one. Assumes nothing.
+use Rattle.scales.specs.declared.answer.Outside.TheVariants as Outside
+use Rattle.std.specs.Prelude.{Err, Ok}
 use mathlib.Core.Path.{◌≡◌, ◌∙◌, subst}
 use mathlib.Core.Logic.{◌⊎◌, inl, inr, ⊎_elim, ◌↔◌}
 use mathlib.Core.Bool.{Bool, true, false, cond}
@@ -19,18 +21,20 @@ use Rattle.numbers.proofs.Machine.{yes_le, le_yes, size_test, clash, is_true, no
 use Rattle.scales.specs.Tick.{furthest, is_valid}
 use Rattle.scales.specs.Answers.{kept_in, stepped_number}
 use Rattle.scales.specs.declared.answer.Epoch.{Epoch}
-use Rattle.scales.specs.declared.answer.Stepped.TheVariants.{Reached, OutsideRange}
 use Rattle.scales.specs.declared.scale.Scale.TheVariants.{Tdb}
 use Rattle.granule.specs.Rule.{units_in_tick}
 use Rattle.image.specs.declared.table.Table.{Table}
-use Rattle.ephemeris.specs.Table.{S, H, last_place, tick_at, is_inside, place_of, table_delay, table_exact, tdb_of, tdb_at, earliest_place, tt_of, is_covered}
+use Rattle.ephemeris.specs.Table.{S, H, last_place, tick_at, is_inside, place_of, table_delay}
+use Rattle.ephemeris.specs.Table.{table_exact, tdb_of, tdb_at, earliest_place, tt_of, is_covered}
 use Rattle.ephemeris.specs.Accepted.{Accepted, Earliest}
 use Rattle.ephemeris.specs.Steps.{tdb_step, tt_step}
 use Rattle.ephemeris.proofs.Bounds.{tick_small}
 use Rattle.ephemeris.proofs.Granules.{delay_exact}
-use Rattle.ephemeris.proofs.Ticks.{inside_both, inside_yes, before_no, after_no, placed, tick_inside, place_of_tick, tick_of_place, tdb_of_lem}
+use Rattle.ephemeris.proofs.Ticks.{inside_both, inside_yes, before_no, after_no, placed}
+use Rattle.ephemeris.proofs.Ticks.{tick_inside, place_of_tick, tick_of_place, tdb_of_lem}
 use Rattle.ephemeris.proofs.Order.{tdb_order, tdb_rises}
-use Rattle.ephemeris.proofs.Search.{earliest_inside, earliest_none, earliest_found, earliest_reached, earliest_least}
+use Rattle.ephemeris.proofs.Search.{earliest_inside, earliest_none, earliest_found}
+use Rattle.ephemeris.proofs.Search.{earliest_reached, earliest_least}
 use Rattle.ephemeris.proofs.Closing.{earliest_near}
 
 -- ---- over plain numbers
@@ -60,7 +64,7 @@ unfolding place_of
 before_place T s i low l = rw (place_of_tick T i) at (places_less (S T) s (tick_at T i) low l)
 
 -- a tick inside is not refused with 6, and a TDB that is covered is not
-kept_number : (valid : Bool) (epoch : Epoch) → stepped_number (cond valid (Reached epoch) OutsideRange) ≡ 6 → ⊥
+kept_number : (valid : Bool) (epoch : Epoch) → stepped_number (cond valid (Ok epoch) (Err Outside.Range)) ≡ 6 → ⊥
 unfolding stepped_number
 kept_number true epoch e = omega arith
 kept_number false epoch e = omega arith

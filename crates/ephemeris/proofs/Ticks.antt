@@ -11,7 +11,8 @@ use Rattle.numbers.proofs.Differences.{rep, rep₂, lin, sizes}
 use Rattle.numbers.proofs.Flags.{both, and_right}
 use Rattle.numbers.proofs.Machine.{yes_le, le_yes, no_le, lt_no, not_lt}
 use Rattle.image.specs.declared.table.Table.{Table}
-use Rattle.ephemeris.specs.Table.{S, last_place, tick_at, is_inside, place_of, table_delay, tdb_of, tdb_at}
+use Rattle.ephemeris.specs.Table.{S, last_place, tick_at, is_inside, place_of, table_delay, tdb_of}
+use Rattle.ephemeris.specs.Table.{tdb_at}
 
 -- ---- over plain numbers
 there : (s t : ℤ) → s ≤ℤ t → s +ℤ pos (nat_abs (t -ℤ s)) ≡ t

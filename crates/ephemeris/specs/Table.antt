@@ -1,8 +1,7 @@
 -- A table: 'a first tick S (TT), a granule length H ticks, a count G and a degree n', and its
 -- G·(n+1) coefficients, granule by granule, as one list. Its ticks are S + i, at the places i from
 -- 0 to GH.
-use Rattle.std.specs.Prelude.{Bool, ◌&&◌, List, ℕ, ◌*◌, ◌-◌, ◌/◌, min, ℤ, pos, nat_abs, ◌+ℤ◌}
-use Rattle.std.specs.Prelude.{◌-ℤ◌}
+use Rattle.std.specs.Prelude.{Bool, ◌&&◌, List, ℕ, ◌*◌, ◌-◌, ◌/◌, min, ℤ, pos, nat_abs, ◌+ℤ◌, ◌-ℤ◌}
 use Rattle.std.specs.Int.Signed.{le_z, lt_z}
 use Rattle.numbers.specs.Lowest.{lowest}
 use Rattle.granule.specs.Rule.{delay_at, exact_at}

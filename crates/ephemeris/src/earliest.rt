@@ -3,8 +3,8 @@
 // more than six times, two for closing in and four for settling, whatever the table.
 ghost use Rattle.std.specs.Prelude.{◌≡◌, ◌+ℤ◌, ◌-ℤ◌};
 ghost use Rattle.ephemeris.specs.Table.{S, last_place, earliest_place, is_covered};
-ghost use Rattle.ephemeris.specs.Asked.{Pointing, held_inside, Asking};
-ghost use Rattle.ephemeris.specs.Asked.{ThisOrBefore, FromHere, Here};
+ghost use Rattle.ephemeris.specs.Asked.{Pointing, held_inside, Asking, ThisOrBefore, FromHere};
+ghost use Rattle.ephemeris.specs.Asked.{Here};
 
 use crate::places::{delay_at, inside, last_place, place_of, tdb_at};
 use crate::tick::{tdb_before, tt_before, tt_of};

@@ -9,7 +9,7 @@ use crate::places::{inside, place_of, tdb_at, tick_at};
 use crate::tick::near;
 use image::table::Table;
 use linear::steps::{Tdb, Tt};
-use scales::answer::{Epoch, Stepped, keep};
+use scales::answer::{Epoch, Outside, keep};
 use scales::scale::Scale;
 
 // A tick of TT, over a table.
@@ -22,13 +22,13 @@ pub struct OverTdb(pub Tdb);
 
 impl OverTt {
     // 'TDB = TT − D', in ticks; '6 before 4'.
-    pub fn to_tdb(self, table: Table, coefficients: &[i64]) -> Stepped
+    pub fn to_tdb(self, table: Table, coefficients: &[i64]) -> Result<Epoch, Outside>
         requires { Accepted table coefficients.now }
         ensures { result ≡ tdb_step table coefficients.now self.0.0 }
     {
         let tick = self.0;
         if !inside(table, tick) {
-            return Stepped::OutsideTable;
+            return Err(Outside::Table);
         }
         let tdb = tdb_at(table, coefficients, place_of(table, tick));
         keep(Scale::Tdb, tdb.0)
@@ -39,22 +39,22 @@ impl OverTdb {
     // 'TT from TDB: the earliest tick of the table whose TDB is at or after the one asked', in
     // ticks, or 6. A TDB that is further than any table's is refused at once, so that nothing
     // overflows.
-    pub fn to_tt(self, table: Table, coefficients: &[i64]) -> Stepped
+    pub fn to_tt(self, table: Table, coefficients: &[i64]) -> Result<Epoch, Outside>
         requires { Accepted table coefficients.now }
         ensures { result ≡ tt_step table coefficients.now self.0.0 }
     {
         let asked = self.0;
         if !near(asked) {
-            return Stepped::OutsideTable;
+            return Err(Outside::Table);
         }
         let place = earliest_place(table, coefficients, asked);
         if covered(table, coefficients, asked, place) {
             let tick = tick_at(table, place);
-            return Stepped::Reached(Epoch {
+            return Ok(Epoch {
                 scale: Scale::Tt,
                 tick: tick.0,
             });
         }
-        Stepped::OutsideTable
+        Err(Outside::Table)
     }
 }

@@ -1,8 +1,8 @@
 // The ticks of a table and their places: the tick S + i has the place i, from 0 to GH. And D and
 // TDB at a place.
 ghost use Rattle.std.specs.Prelude.{◌≡◌};
-ghost use Rattle.ephemeris.specs.Table.{last_place, tick_at, is_inside, place_of};
-ghost use Rattle.ephemeris.specs.Table.{granule_of, table_delay, tdb_at};
+ghost use Rattle.ephemeris.specs.Table.{last_place, tick_at, is_inside, place_of, granule_of};
+ghost use Rattle.ephemeris.specs.Table.{table_delay, tdb_at};
 ghost use Rattle.ephemeris.specs.Accepted.{Bounded};
 ghost use Rattle.ephemeris.specs.Asked.{Counted, TickInside, Placed};
 

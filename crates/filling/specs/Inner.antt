@@ -1,16 +1,13 @@
 -- What filling the second list asks, and what it gives.
-use Rattle.std.specs.Prelude.{◌≡◌, Bool, true, false, List, map, ℕ, ℤ, length}
-use Rattle.scales.specs.declared.answer.Answer.{Answer}
-use Rattle.scales.specs.declared.answer.Stepped.{Stepped}
+use Rattle.entries.specs.Batched.{Batched, batched_left}
+use Rattle.scales.specs.Answers.{Stepped, Answer, answer_tick, stepped_tick}
+use Rattle.image.specs.declared.table.Table.{Table}
+use Rattle.std.specs.Prelude.{Ok, Option, ◌≡◌, Bool, true, false, List, map, ℕ, ℤ, length}
 use Rattle.scales.specs.declared.path.Line.{Line}
 use Rattle.scales.specs.declared.scale.Scale.{Scale}
-use Rattle.scales.specs.Answers.{answer_tick, stepped_tick}
 use Rattle.scales.specs.Rows.{LineRow, line_row, turned}
-use Rattle.walk.specs.declared.kept.Kept.{Kept}
 use Rattle.walk.specs.Inner.{Held}
 use Rattle.walk.specs.Walk.{to_tdb, to_tt}
-use Rattle.entries.specs.declared.batched.Batched.{Batched}
-use Rattle.entries.specs.Batched.{batched_left}
 use Rattle.entries.specs.Entries.{all_tried, entry_of}
 
 -- the ticks that a batch's entries are answered with
@@ -27,21 +24,21 @@ row_by true line = line_row line
 row_by false line = turned (line_row line)
 
 -- the step over the table, from TT to TDB or back
-abbrev pub table_by : Bool → Kept → List ℤ → ℤ → Stepped
+abbrev pub table_by : Bool → Option Table → List ℤ → ℤ → Stepped
 table_by true kept coefficients tick = to_tdb kept coefficients tick
 table_by false kept coefficients tick = to_tt kept coefficients tick
 
 -- what a table is kept for: as many answers as ticks
-pub record Ready (ticks answers : List ℤ) (kept : Kept) (coefficients : List ℤ) : Type 0 where
+pub record Ready (ticks answers : List ℤ) (kept : Option Table) (coefficients : List ℤ) : Type 0 where
   pub held : Held kept coefficients
   pub long : length answers ≡ length ticks
 
 -- and every tick is accepted
-pub record Tried (from to : Scale) (ticks answers : List ℤ) (kept : Kept)
+pub record Tried (from to : Scale) (ticks answers : List ℤ) (kept : Option Table)
     (coefficients : List ℤ) : Type 0 where
   pub ready : Ready ticks answers kept coefficients
   pub steps : ℕ
-  pub accepted : all_tried from to ticks kept coefficients ≡ Batched.Converted steps
+  pub accepted : all_tried from to ticks kept coefficients ≡ Ok steps
 
 -- a batch whose answer is known, and its entries' conversions
 pub record Filled (answer : Batched) (entry : ℤ → Answer) (ticks answers answers' : List ℤ)
@@ -49,7 +46,7 @@ pub record Filled (answer : Batched) (entry : ℤ → Answer) (ticks answers ans
   pub is : r ≡ answer
   pub list : answers' ≡ batched_left answer (ticks_by entry ticks) answers
 
-abbrev pub FilledOver : Scale → Scale → List ℤ → List ℤ → List ℤ → Kept → List ℤ → Batched → Type 0
+abbrev pub FilledOver : Scale → Scale → List ℤ → List ℤ → List ℤ → Option Table → List ℤ → Batched → Type 0
 FilledOver from to ticks answers answers' kept coefficients r =
     Filled (all_tried from to ticks kept coefficients) (entry_of from to kept coefficients) ticks
     answers answers' r

@@ -9,11 +9,11 @@ ghost use Rattle.entries.specs.Entries.{entry_of};
 ghost use Rattle.filling.specs.Inner.{ticks_by, Ready, Tried, FilledOver};
 
 use crate::steps::{copy_all, step_all};
-use entries::batched::Batched;
+use entries::batched::RefusedAt;
 use entries::trying::tried;
-use scales::path::{LONGEST_PATH, Way, end_of, next_step};
+use image::table::Table;
+use scales::path::{LONGEST_PATH, end_of, next_step};
 use scales::scale::Scale;
-use walk::kept::Kept;
 
 // Writes every entry's tick. All have been tried and accepted, so that the path is walked once,
 // each step over the whole list.
@@ -22,7 +22,7 @@ fn write_all(
     to: Scale,
     ticks: &[i64],
     answers: &mut [i64],
-    kept: Kept,
+    kept: Option<Table>,
     coefficients: &[i64],
 )
     requires { Tried from to ticks.now answers.old kept coefficients.now }
@@ -31,14 +31,12 @@ fn write_all(
 {
     copy_all(ticks, answers);
     let mut scale = from;
-    let mut done: u32 = 0;
-    while done < LONGEST_PATH {
-        let Way::By(step) = next_step(scale, to) else {
+    for _done in 0..LONGEST_PATH {
+        let Some(step) = next_step(scale, to) else {
             return;
         };
         step_all(step, scale, answers, kept, coefficients);
         scale = end_of(step);
-        done += 1;
     }
 }
 
@@ -48,19 +46,14 @@ pub fn batch_over(
     to: Scale,
     ticks: &[i64],
     answers: &mut [i64],
-    kept: Kept,
+    kept: Option<Table>,
     coefficients: &[i64],
-) -> Batched
+) -> Result<u32, RefusedAt>
     requires { Ready ticks.now answers.old kept coefficients.now }
     ensures { FilledOver from to ticks.now answers.old
         answers.new kept coefficients.now result }
 {
-    let answer = tried(from, to, ticks, kept, coefficients);
-    match answer {
-        Batched::Refused(refusal, index) => Batched::Refused(refusal, index),
-        Batched::Converted(steps) => {
-            write_all(from, to, ticks, answers, kept, coefficients);
-            Batched::Converted(steps)
-        }
-    }
+    let steps = tried(from, to, ticks, kept, coefficients)?;
+    write_all(from, to, ticks, answers, kept, coefficients);
+    Ok(steps)
 }

@@ -7,11 +7,11 @@ ghost use Rattle.walk.specs.Inner.{Held};
 ghost use Rattle.walk.specs.Walk.{step_of};
 ghost use Rattle.filling.specs.Inner.{row_by, table_by, all_by};
 
+use image::table::Table;
 use linear::steps::{along, back};
-use scales::answer::{Epoch, Stepped};
+use scales::answer::{Epoch, Outside};
 use scales::path::{Edge, Line, Step};
 use scales::scale::Scale;
-use walk::kept::Kept;
 use walk::step::{to_tdb, to_tt};
 
 // The first list's ticks into the second.
@@ -19,22 +19,16 @@ pub fn copy_all(ticks: &[i64], answers: &mut [i64])
     requires { length answers.old ≡ length ticks.now }
     ensures { answers.new ≡ ticks.now }
 {
-    let mut i = 0;
-    while i < ticks.len() {
-        let tick = ticks[i];
-        answers[i] = tick;
-        i += 1;
-    }
+    answers.copy_from_slice(ticks);
 }
 
 // The tick that a step came to, 0 where it came to none.
-fn tick_reached(stepped: Stepped) -> i64
+fn tick_reached(stepped: Result<Epoch, Outside>) -> i64
     ensures { result ≡ stepped_tick stepped }
 {
     match stepped {
-        Stepped::Reached(epoch) => epoch.tick,
-        Stepped::OutsideTable => 0,
-        Stepped::OutsideRange => 0,
+        Ok(epoch) => epoch.tick,
+        Err(_) => 0,
     }
 }
 
@@ -64,7 +58,7 @@ fn line_all(line: Line, forth: bool, scale: Scale, answers: &mut [i64])
 
 // The tick that a step over the table comes to, from TT to TDB or back. What is kept has been
 // judged and accepted.
-fn by_table(forth: bool, scale: Scale, tick: i64, kept: Kept, coefficients: &[i64]) -> i64
+fn by_table(forth: bool, scale: Scale, tick: i64, kept: Option<Table>, coefficients: &[i64]) -> i64
     requires { Held kept coefficients.now }
     ensures { result ≡ stepped_tick (table_by forth kept coefficients.now tick) }
 {
@@ -75,7 +69,7 @@ fn by_table(forth: bool, scale: Scale, tick: i64, kept: Kept, coefficients: &[i6
 }
 
 // A step over the table, of every tick of a list.
-fn table_all(forth: bool, scale: Scale, answers: &mut [i64], kept: Kept, coefficients: &[i64])
+fn table_all(forth: bool, scale: Scale, answers: &mut [i64], kept: Option<Table>, coefficients: &[i64])
     requires { Held kept coefficients.now }
     ensures { answers.new
         ≡ all_by (table_by forth kept coefficients.now) answers.old }
@@ -90,7 +84,7 @@ fn table_all(forth: bool, scale: Scale, answers: &mut [i64], kept: Kept, coeffic
 }
 
 // One step, whichever it is.
-pub fn step_all(step: Step, scale: Scale, answers: &mut [i64], kept: Kept, coefficients: &[i64])
+pub fn step_all(step: Step, scale: Scale, answers: &mut [i64], kept: Option<Table>, coefficients: &[i64])
     requires { Held kept coefficients.now }
     ensures { answers.new
         ≡ all_by (step_of kept coefficients.now step) answers.old }

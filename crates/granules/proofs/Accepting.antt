@@ -1,5 +1,6 @@
 -- What the tests of the coefficients leave where all pass, and that such coefficients pass.
 -- Assumes nothing.
+use Rattle.std.specs.Prelude.{Ok}
 use mathlib.Core.Path.{◌≡◌, refl, sym, ◌∙◌, ap}
 use mathlib.Core.Bool.{true}
 use mathlib.Core.List.{List, [], ◌∷◌}
@@ -11,11 +12,11 @@ use lib.ListN.{length}
 use Rattle.numbers.specs.Tests.{Rule, rule, AllPass}
 use Rattle.numbers.proofs.Places.{all_pass, none_fails}
 use Rattle.numbers.proofs.Verdicts.{Telling, all_none, none_all, numbered_passes, same_pass}
-use Rattle.granule.specs.Tests.{is_small, weight_of, is_light, plain_sum, alternating_sum, is_joined}
+use Rattle.granule.specs.Tests.{is_small, weight_of, is_light, plain_sum, alternating_sum}
+use Rattle.granule.specs.Tests.{is_joined}
 use Rattle.image.specs.declared.table.Table.{Table}
 use Rattle.image.specs.Bounds.{Bounded}
 use Rattle.image.specs.Image.{how_many, granule_in}
-use Rattle.granules.specs.declared.Tested.TheVariants.{Passed}
 use Rattle.granules.specs.Answers.{tested_refused, tested_number, tested_place, tested_listed}
 use Rattle.granules.specs.Tests.{is_join, own_rules, granule_rules, granule_tests}
 use Rattle.granules.specs.Accepted.{Accepted}
@@ -36,7 +37,7 @@ passed_same t f g same =
     (λ p. (le_of_eq (none_fails _ _ (λ i h. sym (join_same f g t.count same i h) ∙ all_pass _ _ p.0 i h)), tt))
 
 -- ---- what the answer tells of the tests
-tells : Telling tested_refused Passed
+tells : Telling tested_refused (Ok tt)
 unfolding tested_number tested_place
 tells =
     record {
@@ -51,7 +52,7 @@ tells =
 module _ (t : Table) (cs : List ℤ) where
   all_accepted : Accepted t cs → AllPass (granule_tests t (granule_in cs t.degree))
   unfolding tested_listed
-  all_accepted a = none_all tested_refused Passed tells _ a.passed
+  all_accepted a = none_all tested_refused (Ok tt) tells _ a.passed
 
   -- the granules are those of the list, wherever they are looked at
   module _ (granule : ℕ → List ℤ)
@@ -62,7 +63,7 @@ module _ (t : Table) (cs : List ℤ) where
         record {
           bounds = bounds;
           whole = whole;
-          passed = all_none tested_refused Passed _ (passed_same t granule (granule_in cs t.degree) same p);
+          passed = all_none tested_refused (Ok tt) _ (passed_same t granule (granule_in cs t.degree) same p);
         }
 
     pub accepted_passes : Accepted t cs → AllPass (granule_tests t granule)

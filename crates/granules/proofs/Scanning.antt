@@ -1,6 +1,8 @@
 -- The one pass over the granules: what it keeps is the lowest rank among them, and at its end it
 -- has told what the list of tests tells. `granule g` are the coefficients of granule g. Assumes
 -- nothing.
+use Rattle.granules.specs.Answers.{Tested, tested_refused, tested_by}
+use Rattle.std.specs.Prelude.{None, Ok, Some}
 use mathlib.Core.Path.{◌≡◌, refl, sym, ◌∙◌, ap, subst}
 use mathlib.Core.Bool.{Bool, true, false, cond, ◌||◌}
 use mathlib.Core.List.{List, [], ◌∷◌}
@@ -14,13 +16,11 @@ use Rattle.granule.specs.Tests.{is_small, plain_sum, alternating_sum, is_joined}
 use Rattle.granule.proofs.Zeros.{plain_ignores, alternating_ignores}
 use Rattle.image.specs.declared.table.Table.{Table}
 use Rattle.numbers.specs.Tests.{over, rule, rank}
-use Rattle.numbers.proofs.Verdicts.{Best, best_none, best_lower, best_still, best_first, rank_later, rank_more, by_rank}
-use Rattle.granules.specs.declared.Next.TheVariants.{Lowest, Onward}
+use Rattle.numbers.proofs.Verdicts.{Best, best_none, best_lower, best_still, best_first, rank_later}
+use Rattle.numbers.proofs.Verdicts.{rank_more, by_rank}
 use Rattle.granules.specs.declared.Scan.{Scan}
-use Rattle.granules.specs.declared.Tested.{Tested}
-use Rattle.granules.specs.declared.Tested.TheVariants.{Passed}
-use Rattle.granules.specs.Tests.{is_join, own_rules, join_rank, none_rank, granule_rules, granule_tests}
-use Rattle.granules.specs.Answers.{tested_refused, tested_by}
+use Rattle.granules.specs.Tests.{is_join, own_rules, join_rank, none_rank, granule_rules}
+use Rattle.granules.specs.Tests.{granule_tests}
 use Rattle.granules.specs.Pass.{joined_rank, scan_after, scan_next, RankTold}
 use Rattle.granules.proofs.Alike.{Alike, own_same}
 
@@ -94,19 +94,19 @@ scanned_none granule H scan e =
     }
 
 -- what the next granule is told
-went_on : (r : ℕ) (x s : Scan) → cond (eqb r 0) Lowest (Onward x) ≡ Onward s → (r ≡ 0 → ⊥) × (x ≡ s)
+went_on : (r : ℕ) (x s : Scan) → cond (eqb r 0) None (Some x) ≡ Some s → (r ≡ 0 → ⊥) × (x ≡ s)
 went_on r x s e = by (ℕ_discrete r 0)
   where
     by : Dec (r ≡ 0) → (r ≡ 0 → ⊥) × (x ≡ s)
-    by (yes z) = let d : Lowest ≡ Onward s = rw (eq-eqb r 0 z) at e in let w : ◌≡◌ {A = ℕ} 0 1 = cc in let no : ⊥ = omega arith in absurd no
-    by (no n) = let d : Onward x ≡ Onward s = rw (ne_eqb r 0 n) at e in (n, cc)
+    by (yes z) = let d : None ≡ Some s = rw (eq-eqb r 0 z) at e in let w : ◌≡◌ {A = ℕ} 0 1 = cc in let no : ⊥ = omega arith in absurd no
+    by (no n) = let d : Some x ≡ Some s = rw (ne_eqb r 0 n) at e in (n, cc)
 
-was_lowest : (r : ℕ) (x : Scan) → cond (eqb r 0) Lowest (Onward x) ≡ Lowest → r ≡ 0
+was_lowest : (r : ℕ) (x : Scan) → cond (eqb r 0) None (Some x) ≡ None → r ≡ 0
 was_lowest r x e = by (ℕ_discrete r 0)
   where
     by : Dec (r ≡ 0) → r ≡ 0
     by (yes z) = z
-    by (no n) = let d : Onward x ≡ Lowest = rw (ne_eqb r 0 n) at e in let w : ◌≡◌ {A = ℕ} 0 1 = cc in let no : ⊥ = omega arith in absurd no
+    by (no n) = let d : Some x ≡ None = rw (ne_eqb r 0 n) at e in let w : ◌≡◌ {A = ℕ} 0 1 = cc in let no : ⊥ = omega arith in absurd no
 
 module _ (granule : ℕ → List ℤ) (H g : ℕ) (scan : Scan) (c : List ℤ) (here : Alike c (granule g))
     (sc : Scanned granule H g scan) where
@@ -145,21 +145,21 @@ module _ (granule : ℕ → List ℤ) (H g : ℕ) (scan : Scan) (c : List ℤ) (
             plain = kept;
           })
 
-  pub scanned_next : (s : Scan) → scan_next scan g c H ≡ Onward s → Scanned granule H (g + 1) s
+  pub scanned_next : (s : Scan) → scan_next scan g c H ≡ Some s → Scanned granule H (g + 1) s
   unfolding scan_next
   scanned_next s e =
       let w = went_on own _ s e in
       subst (λ (z : Scan). Scanned granule H (g + 1) z) w.1 (after w.0)
 
   -- a granule that fails the first test ends the pass
-  pub scanned_lowest : (t : Table) → H ≡ nat_abs t.length → g < t.count → scan_next scan g c H ≡ Lowest
+  pub scanned_lowest : (t : Table) → H ≡ nat_abs t.length → g < t.count → scan_next scan g c H ≡ None
       → (answer : Tested) → RankTold 0 g answer → answer ≡ tested_by (granule_tests t granule)
   unfolding scan_next
   scanned_lowest t same h e answer a =
       let z = was_lowest own _ e in
       let f = own_first granule H g scan.plain.0 c here sc.plain z in
       a.is H granule
-      ∙ by_rank tested_refused Passed (granule_rules H granule) t.count 0 g
+      ∙ by_rank tested_refused (Ok tt) (granule_rules H granule) t.count 0 g
       (best_first _ none_rank g scan.rank scan.place sc.best sc.some f t.count h)
       ∙ ap (λ (l : ℕ). tested_by (over t.count (granule_rules l granule))) same
 
@@ -169,5 +169,5 @@ pub scanned_all : (granule : ℕ → List ℤ) (t : Table) (H : ℕ) (scan : Sca
     → (answer : Tested) → RankTold scan.rank scan.place answer → answer ≡ tested_by (granule_tests t granule)
 scanned_all granule t H scan same sc answer a =
     a.is H granule
-    ∙ by_rank tested_refused Passed (granule_rules H granule) t.count scan.rank scan.place sc.best
+    ∙ by_rank tested_refused (Ok tt) (granule_rules H granule) t.count scan.rank scan.place sc.best
     ∙ ap (λ (l : ℕ). tested_by (over t.count (granule_rules l granule))) same

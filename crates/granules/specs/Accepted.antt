@@ -1,9 +1,8 @@
 -- A table that was judged and accepted, with its coefficients: what the layers above ask of it.
-use Rattle.std.specs.Prelude.{◌≡◌, List, ℤ, length}
+use Rattle.std.specs.Prelude.{Ok, ◌≡◌, List, ℤ, length}
 use Rattle.image.specs.declared.table.Table.{Table}
 use Rattle.image.specs.Bounds.{Bounded}
 use Rattle.image.specs.Image.{how_many}
-use Rattle.granules.specs.declared.Tested.TheVariants.{Passed}
 use Rattle.granules.specs.Answers.{tested_listed}
 
 -- the bounds, 'G·(n+1) coefficients granule by granule', and that they pass their tests, from 14 to
@@ -11,4 +10,4 @@ use Rattle.granules.specs.Answers.{tested_listed}
 pub record Accepted (T : Table) (cs : List ℤ) : Type 0 where
   pub bounds : Bounded T
   pub whole : length cs ≡ how_many T
-  pub passed : tested_listed cs T ≡ Passed
+  pub passed : tested_listed cs T ≡ (Ok tt)

@@ -1,6 +1,7 @@
 -- The one pass over the granules: what it keeps, and what it asks.
-use Rattle.std.specs.Prelude.{◌≡◌, true, cond, ◌||◌, List, ℕ, ◌*◌, ◌+◌, ◌≤◌, ◌<◌, ltb, eqb, ℤ}
-use Rattle.std.specs.Prelude.{length}
+use Rattle.granules.specs.Answers.{Tested, tested_refused}
+use Rattle.std.specs.Prelude.{None, Ok, Option, Some, ◌≡◌, true, cond, ◌||◌, List, ℕ, ◌*◌, ◌+◌, ◌≤◌}
+use Rattle.std.specs.Prelude.{◌<◌, ltb, eqb, ℤ, length}
 use Rattle.numbers.specs.Tests.{rank, told}
 use Rattle.granule.specs.Bounds.{most_degree}
 use Rattle.granule.specs.Tests.{plain_sum, alternating_sum, is_joined}
@@ -8,13 +9,8 @@ use Rattle.words.specs.Words.{block}
 use Rattle.form.specs.Form.{blocks_of, is_formed}
 use Rattle.image.specs.declared.table.Table.{Table}
 use Rattle.image.specs.Bounds.{Bounded}
-use Rattle.granules.specs.declared.Next.{Next}
-use Rattle.granules.specs.declared.Next.TheVariants.{Lowest, Onward}
 use Rattle.granules.specs.declared.Scan.{Scan}
-use Rattle.granules.specs.declared.Tested.{Tested}
-use Rattle.granules.specs.declared.Tested.TheVariants.{Passed}
 use Rattle.granules.specs.Tests.{own_rules, join_rank, none_rank, granule_rules}
-use Rattle.granules.specs.Answers.{tested_refused}
 
 -- the rank of granule g, whose coefficients are c and whose own rank is `own`
 unfoldable pub joined_rank : ℕ → ℕ → ℤ → List ℤ → ℕ
@@ -29,15 +25,15 @@ scan_after scan g r sum =
     (record { rank = r; place = g; plain = record { 0 = sum } })
     (record { rank = scan.rank; place = scan.place; plain = record { 0 = sum } })
 
-unfoldable pub scan_next : Scan → ℕ → List ℤ → ℕ → Next
+unfoldable pub scan_next : Scan → ℕ → List ℤ → ℕ → Option Scan
 scan_next scan g c H =
-    cond (eqb (rank (own_rules H) c) 0) Lowest
-    (Onward (scan_after scan g (joined_rank (rank (own_rules H) c) g scan.plain.0 c) (plain_sum c)))
+    cond (eqb (rank (own_rules H) c) 0) None
+    (Some (scan_after scan g (joined_rank (rank (own_rules H) c) g scan.plain.0 c) (plain_sum c)))
 
 -- what is told at its end: the numbers of the rules, whatever they are over
 pub record RankTold (r place : ℕ) (answer : Tested) : Type 0 where
   pub is : (H : ℕ) (granule : ℕ → List ℤ)
-      → answer ≡ told tested_refused Passed (granule_rules H granule) r place
+      → answer ≡ told tested_refused (Ok tt) (granule_rules H granule) r place
 
 -- ---- what it asks
 -- no more coefficients than are stored for a granule

@@ -17,26 +17,12 @@ use image::table::Table;
 use image::take::stored;
 use scales::refusal::Refusal;
 
-// What the tests of the coefficients tell.
-#[derive(Clone, Copy)]
-pub enum Tested {
-    Passed,
-    Refused(Refusal),
-}
-
 // What the pass keeps: the lowest rank so far with its granule, and the plain sum of the last one.
 #[derive(Clone, Copy)]
 pub struct Scan {
     pub rank: usize,
     pub place: usize,
     pub plain: Units,
-}
-
-// The granule fails the first test, or the pass goes on.
-#[derive(Clone, Copy)]
-pub enum Next {
-    Lowest,
-    Onward(Scan),
 }
 
 // The numbers of the tests, in the order of their ranks: those of a granule by itself, then 16.
@@ -78,26 +64,26 @@ fn rank_of(own: usize, g: usize, before: Units, coefficients: &[i64]) -> usize
     JOIN
 }
 
-// The pass, with granule g.
-fn look_at(scan: Scan, g: usize, coefficients: &[i64], length: u64) -> Next
+// The pass, with granule g; none where it fails the first test, since none can be lower.
+fn look_at(scan: Scan, g: usize, coefficients: &[i64], length: u64) -> Option<Scan>
     requires { Short coefficients.now }
     ensures { result ≡ scan_next scan g coefficients.now length }
 {
     let own = own_rank(coefficients, length);
     if own == 0 {
-        return Next::Lowest;
+        return None;
     }
     let before = scan.plain;
     let rank = rank_of(own, g, before, coefficients);
     let sum = plain(coefficients);
     if rank < scan.rank {
-        return Next::Onward(Scan {
+        return Some(Scan {
             rank,
             place: g,
             plain: sum,
         });
     }
-    Next::Onward(Scan {
+    Some(Scan {
         rank: scan.rank,
         place: scan.place,
         plain: sum,
@@ -105,14 +91,14 @@ fn look_at(scan: Scan, g: usize, coefficients: &[i64], length: u64) -> Next
 }
 
 // What a rank tells of a granule: its test's number, or that it has passed.
-fn told(rank: usize, place: usize) -> Tested
+fn told(rank: usize, place: usize) -> Result<(), Refusal>
     ensures { RankTold rank place result }
 {
     if NONE <= rank {
-        return Tested::Passed;
+        return Ok(());
     }
     let number = NUMBERS[rank];
-    Tested::Refused(Refusal {
+    Err(Refusal {
         number,
         place: place as u64,
     })
@@ -120,7 +106,7 @@ fn told(rank: usize, place: usize) -> Tested
 
 // The coefficients of a table in bytes, whose bounds and blocks are right: so all sixteen of a
 // granule are looked at, 'those above the degree zero'.
-pub fn test_stored(bytes: &[u8], table: Table) -> Tested
+pub fn test_stored(bytes: &[u8], table: Table) -> Result<(), Refusal>
     requires { Formed bytes.now table }
     ensures { result ≡ tested_stored bytes.now table }
 {
@@ -133,21 +119,17 @@ pub fn test_stored(bytes: &[u8], table: Table) -> Tested
     let mut g = 0;
     while g < table.count as usize {
         let all = stored(bytes, g);
-        match look_at(scan, g, &all, length) {
-            Next::Lowest => {
-                return told(0, g);
-            }
-            Next::Onward(onward) => {
-                scan = onward;
-            }
-        }
+        let Some(onward) = look_at(scan, g, &all, length) else {
+            return told(0, g);
+        };
+        scan = onward;
         g += 1;
     }
     told(scan.rank, scan.place)
 }
 
 // The coefficients of a table in a list, granule by granule, whose bounds are right.
-pub fn test_listed(coefficients: &[i64], table: Table) -> Tested
+pub fn test_listed(coefficients: &[i64], table: Table) -> Result<(), Refusal>
     requires { WholeTable table coefficients.now }
     ensures { result ≡ tested_listed coefficients.now table }
 {
@@ -162,14 +144,10 @@ pub fn test_listed(coefficients: &[i64], table: Table) -> Tested
     while g < table.count as usize {
         let from = g * width;
         let to = from + width;
-        match look_at(scan, g, &coefficients[from..to], length) {
-            Next::Lowest => {
-                return told(0, g);
-            }
-            Next::Onward(onward) => {
-                scan = onward;
-            }
-        }
+        let Some(onward) = look_at(scan, g, &coefficients[from..to], length) else {
+            return told(0, g);
+        };
+        scan = onward;
         g += 1;
     }
     told(scan.rank, scan.place)

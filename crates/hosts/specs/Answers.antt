@@ -1,13 +1,12 @@
 -- What an exported answer holds: 'number 0 is accepted, with place and index 0. Otherwise number
 -- and place are the refusal's ..; every other field is 0.'
-use Rattle.std.specs.Prelude.{ℕ, pos}
-use Rattle.blocks.specs.declared.answer.Judged.{Judged}
-use Rattle.blocks.specs.declared.answer.Judged.TheVariants.{Accepted, Refused}
+use Rattle.blocks.specs.Answers.{Judged}
+use Rattle.std.specs.Prelude.{Err, Ok, ℕ, pos}
 use Rattle.hosts.specs.declared.answers.Answer.{Answer}
 use Rattle.hosts.specs.declared.answers.TableAnswer.{TableAnswer}
 
 abbrev pub table_answer : Judged → TableAnswer
-table_answer (Accepted table) = record {
+table_answer (Ok table) = record {
   number = 0;
   count = table.count;
   degree = table.degree;
@@ -15,7 +14,7 @@ table_answer (Accepted table) = record {
   start = table.start.0;
   length = table.length;
 }
-table_answer (Refused refusal) = record {
+table_answer (Err refusal) = record {
   number = refusal.number;
   count = 0;
   degree = 0;
@@ -30,5 +29,5 @@ refused_answer number place =
 
 -- a writing has no tick and no step to tell
 abbrev pub done_answer : Judged → Answer
-done_answer (Accepted table) = record { number = 0; steps = 0; place = 0; index = 0; tick = pos 0 }
-done_answer (Refused refusal) = refused_answer refusal.number refusal.place
+done_answer (Ok table) = record { number = 0; steps = 0; place = 0; index = 0; tick = pos 0 }
+done_answer (Err refusal) = refused_answer refusal.number refusal.place

@@ -1,9 +1,8 @@
 -- Comparing two tables: the answer, and the last content of the lent list. '`which` is 0 or 1, the
 -- table that was refused; else 0.'
-use Rattle.std.specs.Prelude.{◌≡◌, List, ℕ, ℤ, length}
-use Rattle.comparing.specs.declared.Compared.{Compared}
-use Rattle.comparing.specs.Answers.{compared_number, compared_place, compared_which}
+use Rattle.comparing.specs.Answers.{Compared, compared_number, compared_place, compared_which}
 use Rattle.comparing.specs.Answers.{compared_entries}
+use Rattle.std.specs.Prelude.{◌≡◌, List, ℕ, ℤ, length}
 use Rattle.comparing.specs.Comparing.{compared_of, compared_into}
 use Rattle.hosts.specs.declared.changes.ChangesAnswer.{ChangesAnswer}
 

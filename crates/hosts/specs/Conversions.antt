@@ -1,9 +1,9 @@
 -- What a conversion and a batch answer: 'number and place are the refusal's and, for a batch, index
 -- the entry's; every other field is 0'.
+use Rattle.entries.specs.Batched.{Batched}
+use Rattle.scales.specs.Answers as scales
 use Rattle.std.specs.Prelude.{◌≡◌, List, ℕ, ℤ, pos, length}
-use Rattle.scales.specs.declared.answer.Answer as scales
 use Rattle.scales.specs.Answers as conversion
-use Rattle.entries.specs.declared.batched.Batched.{Batched}
 use Rattle.batch.specs.Batch.{batch_of, batch_into}
 use Rattle.entries.specs.Batched as batch
 use Rattle.hosts.specs.declared.answers.Answer.{Answer}

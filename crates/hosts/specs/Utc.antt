@@ -1,8 +1,7 @@
 -- What a written UTC answers.
-use Rattle.written.specs.declared.UtcAnswer as written
+use Rattle.written.specs.Answers as written
 use Rattle.written.specs.Answers.{utc_answer_number, utc_answer_place, utc_answer_day}
-use Rattle.written.specs.Answers.{utc_answer_ticks}
-use Rattle.written.specs.Answers.{utc_answer_steps}
+use Rattle.written.specs.Answers.{utc_answer_ticks, utc_answer_steps}
 use Rattle.hosts.specs.declared.leaps.UtcAnswer.{UtcAnswer}
 
 -- its number, place, day, ticks and steps as the page has them for each case

@@ -4,7 +4,8 @@ ghost use Rattle.std.specs.Prelude.{◌≡◌};
 ghost use Rattle.hosts.specs.Answers.{table_answer, done_answer, refused_answer};
 ghost use Rattle.hosts.specs.Conversions.{converted_answer};
 
-use blocks::answer::Judged;
+use image::table::Table;
+use scales::answer::Converted;
 use scales::refusal::Refusal;
 
 #[repr(C)]
@@ -29,11 +30,11 @@ pub struct TableAnswer {
 }
 
 // A table that was judged: its numbers, or the refusal.
-pub fn table_answer(judged: Judged) -> TableAnswer
+pub fn table_answer(judged: Result<Table, Refusal>) -> TableAnswer
     ensures { result ≡ table_answer judged }
 {
     match judged {
-        Judged::Accepted(table) => {
+        Ok(table) => {
             let start = table.start;
             TableAnswer {
                 number: 0,
@@ -44,7 +45,7 @@ pub fn table_answer(judged: Judged) -> TableAnswer
                 length: table.length,
             }
         }
-        Judged::Refused(refusal) => TableAnswer {
+        Err(refusal) => TableAnswer {
             number: refusal.number,
             count: 0,
             degree: 0,
@@ -75,33 +76,33 @@ pub fn refused_by(refusal: Refusal) -> Answer
 }
 
 // A conversion: its tick and steps, or the refusal.
-pub fn converted_answer(answer: scales::answer::Answer) -> Answer
+pub fn converted_answer(answer: Result<Converted, Refusal>) -> Answer
     ensures { result ≡ converted_answer answer }
 {
     match answer {
-        scales::answer::Answer::Converted(epoch, steps) => Answer {
+        Ok(converted) => Answer {
             number: 0,
-            steps,
+            steps: converted.steps,
             place: 0,
             index: 0,
-            tick: epoch.tick,
+            tick: converted.epoch.tick,
         },
-        scales::answer::Answer::Refused(refusal) => refused_by(refusal),
+        Err(refusal) => refused_by(refusal),
     }
 }
 
 // What was done without a tick to tell: accepted, or the refusal.
-pub fn done_answer(judged: Judged) -> Answer
+pub fn done_answer(judged: Result<Table, Refusal>) -> Answer
     ensures { result ≡ done_answer judged }
 {
     match judged {
-        Judged::Accepted(_) => Answer {
+        Ok(_) => Answer {
             number: 0,
             steps: 0,
             place: 0,
             index: 0,
             tick: 0,
         },
-        Judged::Refused(refusal) => refused_by(refusal),
+        Err(refusal) => refused_by(refusal),
     }
 }

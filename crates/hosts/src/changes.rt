@@ -2,7 +2,7 @@
 ghost use Rattle.std.specs.Prelude.{◌≡◌};
 ghost use Rattle.hosts.specs.Changes.{changes_answer, TablesCompared};
 
-use comparing::{Compared, compare};
+use comparing::{RefusedOf, compare};
 
 #[repr(C)]
 #[derive(Clone, Copy)]
@@ -14,20 +14,20 @@ pub struct ChangesAnswer {
 }
 
 // A comparison: how many granules differ, or the refusal and which table got it.
-fn changes_answer(compared: Compared) -> ChangesAnswer
+fn changes_answer(compared: Result<u64, RefusedOf>) -> ChangesAnswer
     ensures { result ≡ changes_answer compared }
 {
     match compared {
-        Compared::Changes(entries) => ChangesAnswer {
+        Ok(entries) => ChangesAnswer {
             number: 0,
             which: 0,
             place: 0,
             entries,
         },
-        Compared::Refused(refusal, which) => ChangesAnswer {
-            number: refusal.number,
-            which,
-            place: refusal.place,
+        Err(refused) => ChangesAnswer {
+            number: refused.refusal.number,
+            which: refused.which,
+            place: refused.refusal.place,
             entries: 0,
         },
     }

@@ -8,25 +8,25 @@ use crate::answers::{Answer, converted_answer};
 use batch::batch;
 use dates::reading::Reading;
 use desk::conversion::convert;
-use entries::batched::Batched;
+use entries::batched::RefusedAt;
 
 // A batch: the path's steps, or the refusal and the entry's index.
-fn batch_answer(batched: Batched) -> Answer
+fn batch_answer(batched: Result<u32, RefusedAt>) -> Answer
     ensures { result ≡ batch_answer batched }
 {
     match batched {
-        Batched::Converted(steps) => Answer {
+        Ok(steps) => Answer {
             number: 0,
             steps,
             place: 0,
             index: 0,
             tick: 0,
         },
-        Batched::Refused(refusal, index) => Answer {
-            number: refusal.number,
+        Err(refused) => Answer {
+            number: refused.refusal.number,
             steps: 0,
-            place: refusal.place,
-            index,
+            place: refused.refusal.place,
+            index: refused.index,
             tick: 0,
         },
     }

@@ -3,7 +3,9 @@ ghost use Rattle.std.specs.Prelude.{◌≡◌};
 ghost use Rattle.dates.specs.Written.{written_of};
 ghost use Rattle.hosts.specs.Dates.{date_answer};
 
-use dates::writing::{Written, write_date};
+use dates::reading::Date;
+use dates::writing::write_date;
+use scales::refusal::Refusal;
 
 #[repr(C)]
 #[derive(Clone, Copy)]
@@ -14,17 +16,17 @@ pub struct DateAnswer {
     pub second: f64,
 }
 
-fn date_answer(written: Written) -> DateAnswer
+fn date_answer(written: Result<Date, Refusal>) -> DateAnswer
     ensures { result ≡ date_answer written }
 {
     match written {
-        Written::Date(date) => DateAnswer {
+        Ok(date) => DateAnswer {
             number: 0,
             place: 0,
             first: date.first,
             second: date.second,
         },
-        Written::Refused(refusal) => DateAnswer {
+        Err(refusal) => DateAnswer {
             number: refusal.number,
             place: refusal.place,
             first: 0.0,

@@ -10,7 +10,8 @@ ghost use Rattle.hosts.specs.Utc.{utc_answer};
 use crate::answers::{Answer, converted_answer};
 use dates::reading::Reading;
 use desk::conversion::convert;
-use written::write_utc;
+use scales::refusal::Refusal;
+use written::{Written, write_utc};
 
 #[repr(C)]
 #[derive(Clone, Copy)]
@@ -23,18 +24,18 @@ pub struct UtcAnswer {
 }
 
 // A written UTC: its day and ticks, and the steps; or the refusal.
-fn utc_answer(answer: written::UtcAnswer) -> UtcAnswer
+fn utc_answer(answer: Result<Written, Refusal>) -> UtcAnswer
     ensures { result ≡ utc_answer answer }
 {
     match answer {
-        written::UtcAnswer::Written(utc, steps) => UtcAnswer {
+        Ok(written) => UtcAnswer {
             number: 0,
-            steps,
+            steps: written.steps,
             place: 0,
-            day: utc.day,
-            ticks: utc.ticks,
+            day: written.utc.day,
+            ticks: written.utc.ticks,
         },
-        written::UtcAnswer::Refused(refusal) => UtcAnswer {
+        Err(refusal) => UtcAnswer {
             number: refusal.number,
             steps: 0,
             place: refusal.place,

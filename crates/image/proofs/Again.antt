@@ -17,9 +17,11 @@ use Rattle.image.specs.declared.table.Table.{Table}
 use Rattle.numbers.specs.Lowest.{every}
 use Rattle.words.specs.Words.{byte_of, word_at, block}
 use Rattle.words.specs.Check.{check_a, check_b, is_checked}
-use Rattle.form.specs.Form.{granule_at, which_at, is_number, is_coefficient, is_free, fixed_byte, is_right, is_formed, blocks_of}
-use Rattle.image.specs.Image.{bits_of, number_byte, coefficient_byte, body_byte, block_byte, image_byte}
-use Rattle.image.specs.Image.{image_of, table_of, stored_at, coefficient_at, coefficients_stored}
+use Rattle.form.specs.Form.{granule_at, which_at, is_number, is_coefficient, is_free, fixed_byte}
+use Rattle.form.specs.Form.{is_right, is_formed, blocks_of}
+use Rattle.image.specs.Image.{bits_of, number_byte, coefficient_byte, body_byte, block_byte}
+use Rattle.image.specs.Image.{image_byte, image_of, table_of, stored_at, coefficient_at}
+use Rattle.image.specs.Image.{coefficients_stored}
 use Rattle.numbers.proofs.Flags.{both, and_right, or_told}
 use Rattle.numbers.proofs.Places.{every_at, up_to_at}
 use Rattle.words.proofs.Sums.{check_a_same, check_b_same}

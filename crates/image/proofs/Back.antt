@@ -4,8 +4,9 @@ use mathlib.Core.Path.{◌≡◌, refl, sym, ◌∙◌, ap}
 use mathlib.Core.Bool.{Bool, true, false}
 use mathlib.Core.List.{List}
 use Prim.Native.Nat.{ℕ, ◌+◌, ◌*◌, ◌-◌, ◌/◌, ◌%◌, ◌≤◌, ◌<◌}
-use native.Mathlib.Nat.{mul-le-mul_right, div-lt_iff_lt-mul, mod-lt, div-add-mod', zero-add, add-zero}
-use native.Mathlib.Nat.{mod-eq_of_lt, mul-add-div_right, mul-add-mod_self_right, div-eq_of_lt}
+use native.Mathlib.Nat.{mul-le-mul_right, div-lt_iff_lt-mul, mod-lt, div-add-mod', zero-add}
+use native.Mathlib.Nat.{add-zero, mod-eq_of_lt, mul-add-div_right, mul-add-mod_self_right}
+use native.Mathlib.Nat.{div-eq_of_lt}
 use native.Mathlib.Omega.{arith}
 use borrow.Author.Tests.{ne_eqb, lt-ltb}
 use lib.IntN.{ℤ, pos}
@@ -18,9 +19,11 @@ use Rattle.image.specs.declared.table.Table.{Table}
 use Rattle.words.specs.Words.{byte_of, quad_at, word_at, block}
 use Rattle.words.specs.Check.{sum_a, sum_b, check_a, check_b, is_checked}
 use Rattle.granule.specs.Bounds.{most_degree}
-use Rattle.form.specs.Form.{granule_at, which_at, is_number, is_coefficient, is_free, fixed_byte, is_right, is_formed, blocks_of}
-use Rattle.image.specs.Image.{bits_of, number_byte, coefficient_byte, body_byte, block_byte, image_byte, image_of, table_of}
-use Rattle.image.specs.Image.{stored_at, coefficient_at, stored_of, granule_in, granule_stored, coefficients_stored}
+use Rattle.form.specs.Form.{granule_at, which_at, is_number, is_coefficient, is_free, fixed_byte}
+use Rattle.form.specs.Form.{is_right, is_formed, blocks_of}
+use Rattle.image.specs.Image.{bits_of, number_byte, coefficient_byte, body_byte, block_byte}
+use Rattle.image.specs.Image.{image_byte, image_of, table_of, stored_at, coefficient_at, stored_of}
+use Rattle.image.specs.Image.{granule_in, granule_stored, coefficients_stored}
 use Rattle.image.specs.Asked.{WholeTable}
 use Rattle.numbers.proofs.Places.{every_is, up_to_length, up_to_at, is_up_to}
 use Rattle.words.proofs.Sums.{check_a_same, check_b_same, right_ab}

@@ -2,8 +2,8 @@
 ghost use Rattle.std.specs.Prelude.{◌≡◌, true, ◌+◌, ◌*◌, ◌≤◌, ◌<◌, length};
 ghost use Rattle.form.specs.Form.{blocks_of, is_number};
 ghost use Rattle.granule.specs.Bounds.{most_degree};
-ghost use Rattle.image.specs.Image.{bits_of, number_byte, coefficient_byte, body_byte};
-ghost use Rattle.image.specs.Image.{block_byte, image_of};
+ghost use Rattle.image.specs.Image.{bits_of, number_byte, coefficient_byte, body_byte, block_byte};
+ghost use Rattle.image.specs.Image.{image_of};
 ghost use Rattle.image.specs.Asked.{Holding, WholeTable, Fitting, Stores, Sealed};
 
 use crate::table::Table;

@@ -4,7 +4,8 @@ use mathlib.Core.Path.{◌≡◌, refl}
 use mathlib.Core.List.{List, [], ◌∷◌}
 use Prim.Native.Nat.{ℕ}
 use lib.IntN.{ℤ, pos, negsuc}
-use Rattle.line.specs.Numbers.{is_digit, all_digits, value_from, value_of, fits_signed, fitting, digits_number, number_in}
+use Rattle.line.specs.Numbers.{is_digit, all_digits, value_from, value_of, fits_signed, fitting}
+use Rattle.line.specs.Numbers.{digits_number, number_in}
 use Rattle.line.specs.Answers.{line_number, line_from, line_to, line_tick}
 use Rattle.line.specs.Lines.{fields, line_read}
 

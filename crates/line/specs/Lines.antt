@@ -1,9 +1,9 @@
 -- A line's numbers: '`from to tick`, one space between, at most 64 bytes without the newline'.
-use Rattle.std.specs.Prelude.{cond, List, [], ◌∷◌, map, ℕ, leb, ltb, eqb, ℤ, pos, negsuc, length}
+use Rattle.line.specs.Answers.{Line, numbers_read}
+use Rattle.std.specs.Prelude.{Err, cond, List, [], ◌∷◌, map, ℕ, leb, ltb, eqb, ℤ, pos, negsuc}
+use Rattle.std.specs.Prelude.{length}
 use Rattle.std.proofs.Math.Option.{Option, some, none}
 use Rattle.line.specs.Numbers.{number_in}
-use Rattle.line.specs.declared.reading.Line.{Line}
-use Rattle.line.specs.declared.reading.Line.TheVariants.{Numbers, Refused}
 
 -- fields with one byte more at the front of the first
 abbrev pub starting_with : ℕ → List (List ℕ) → List (List ℕ)
@@ -18,7 +18,7 @@ fields (byte ∷ more) = cond (eqb byte 32) ([] ∷ fields more) (starting_with 
 
 -- refusal '9: text line not understood', place 'line, from 1'
 abbrev pub not_understood : ℕ → Line
-not_understood line = Refused (record { number = 9; place = line })
+not_understood line = Err (record { number = 9; place = line })
 
 -- three numbers, and nothing else
 abbrev pub three_numbers : List (Option ℤ) → ℕ → Line
@@ -28,7 +28,7 @@ three_numbers (some from ∷ []) line = not_understood line
 three_numbers (some from ∷ none ∷ more) line = not_understood line
 three_numbers (some from ∷ some to ∷ []) line = not_understood line
 three_numbers (some from ∷ some to ∷ none ∷ more) line = not_understood line
-three_numbers (some from ∷ some to ∷ some tick ∷ []) line = Numbers from to tick
+three_numbers (some from ∷ some to ∷ some tick ∷ []) line = numbers_read from to tick
 three_numbers (some from ∷ some to ∷ some tick ∷ extra ∷ more) line = not_understood line
 
 -- 'at most 64 bytes'

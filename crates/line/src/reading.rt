@@ -6,19 +6,20 @@ ghost use Rattle.line.specs.Lines.{line_read, code_of};
 use crate::number::{Scanned, number_from};
 use scales::refusal::Refusal;
 
-// The numbers from, to and tick of a line, or refusal 9.
-#[derive(Clone, Copy)]
-pub enum Line {
-    Numbers(i64, i64, i64),
-    Refused(Refusal),
+// The numbers of a line.
+#[derive(Clone, Copy, Debug, PartialEq, Eq)]
+pub struct Numbers {
+    pub from: i64,
+    pub to: i64,
+    pub tick: i64,
 }
 
 // Reads a line, given without its newline, of any length. `line` is its number from 1, the place of
 // refusal 9.
-pub fn read_line(text: &[u8], line: u64) -> Line
+pub fn read_line(text: &[u8], line: u64) -> Result<Numbers, Refusal>
     ensures { result ≡ line_read text.now line }
 {
-    let refused = Line::Refused(Refusal {
+    let refused = Err(Refusal {
         number: 9,
         place: line,
     });
@@ -43,7 +44,7 @@ pub fn read_line(text: &[u8], line: u64) -> Line
     if third < text.len() {
         return refused;
     }
-    Line::Numbers(from, to, tick)
+    Ok(Numbers { from, to, tick })
 }
 
 // The greatest unsigned number of 32 bits, which can never be a code.

@@ -1,6 +1,9 @@
 -- What the methods of the structs come to, and the steps by them: a number's bits are read back, a
 -- mere shift is exact, a valid tick is near enough, and what the step comes to is kept. Assumes
 -- nothing.
+use Rattle.scales.specs.Answers.{Stepped, kept_in}
+use Rattle.scales.specs.declared.answer.Outside.TheVariants as Outside
+use Rattle.std.specs.Prelude.{Err}
 use mathlib.Core.Path.{◌≡◌, ◌∙◌, ap}
 use mathlib.Core.Bool.{true, false}
 use Prim.Native.Nat.{ℕ}
@@ -10,9 +13,6 @@ use mir.Syntax.{w64}
 use mir.Val.{SFits}
 use Rattle.numbers.proofs.Differences.{rep, lin}
 use Rattle.numbers.proofs.Machine.{read, read_is}
-use Rattle.scales.specs.declared.answer.Stepped.{Stepped}
-use Rattle.scales.specs.declared.answer.Stepped.TheVariants.{OutsideRange}
-use Rattle.scales.specs.Answers.{kept_in}
 use Rattle.scales.specs.Linear.{nearest_tick}
 use Rattle.scales.specs.Rows.{LineRow, line_step}
 use Rattle.scales.specs.Tick.{is_valid}
@@ -36,7 +36,7 @@ module _ (t r : ℤ) (ft : SFits w64 t) (fr : SFits w64 r) where
 
 -- ---- a step from a tick
 module _ (row : LineRow) (t : ℤ) where
-  pub step_no : is_valid t ≡ false → OutsideRange ≡ line_step row t
+  pub step_no : is_valid t ≡ false → (Err Outside.Range) ≡ line_step row t
   unfolding line_step
   step_no invalid = rw invalid
 

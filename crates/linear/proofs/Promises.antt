@@ -1,6 +1,8 @@
 -- What holds of every linear step, stated once over its row: its answer is within half a tick of
 -- the exact value, the earlier never comes out later, and there and back lands within one tick; a
 -- mere shift comes back exactly. Assumes nothing.
+use Rattle.scales.specs.declared.answer.Outside.TheVariants as Outside
+use Rattle.std.specs.Prelude.{Err, Ok}
 use mathlib.Core.Path.{◌≡◌, refl, sym, ◌∙◌, ap, subst}
 use mathlib.Core.Bool.{Bool, true, false, cond}
 use mathlib.Core.List.{map}
@@ -15,7 +17,6 @@ use Rattle.numbers.proofs.Differences.{rep₂, rep₃, rep₄, lin}
 use Rattle.numbers.proofs.Order.{*-mono, abs-*}
 use Rattle.numbers.proofs.Rounding.{nearest_order, within_half}
 use Rattle.scales.specs.declared.answer.Epoch.{Epoch}
-use Rattle.scales.specs.declared.answer.Stepped.TheVariants.{Reached, OutsideTable, OutsideRange}
 use Rattle.scales.specs.declared.path.Line.{Line}
 use Rattle.scales.specs.declared.scale.Scale.{Scale}
 use Rattle.scales.specs.Answers.{kept_in}
@@ -101,32 +102,32 @@ module _ (row : LineRow) (t : ℤ) where
     pub to : is_valid (nearest_tick row.by t) ≡ true
     pub is : record { scale = row.to; tick = nearest_tick row.by t } ≡ e
 
-  pub took : (e : Epoch) → line_step row t ≡ Reached e → Took e
+  pub took : (e : Epoch) → line_step row t ≡ Ok e → Took e
   unfolding line_step
   took e there = by (is_valid t) refl there
     where
       by : (valid : Bool) → is_valid t ≡ valid
-          → cond valid (kept_in row.to (nearest_tick row.by t)) OutsideRange ≡ Reached e → Took e
+          → cond valid (kept_in row.to (nearest_tick row.by t)) (Err Outside.Range) ≡ Ok e → Took e
       by true v there =
           let k = kept_reached row.to (nearest_tick row.by t) e there in
           record { from = v; to = k.0; is = k.1 }
       by false v there = out_of_range there
 
-  tick_took : (e : Epoch) → line_step row t ≡ Reached e → nearest_tick row.by t ≡ e.tick
+  tick_took : (e : Epoch) → line_step row t ≡ Ok e → nearest_tick row.by t ≡ e.tick
   tick_took e there = same_tick (took e there).is
 
   -- from a valid tick, whose nearest is valid, it is taken
   pub line_taken : is_valid t ≡ true → is_valid (nearest_tick row.by t) ≡ true
-      → line_step row t ≡ Reached (record { scale = row.to; tick = nearest_tick row.by t })
+      → line_step row t ≡ Ok (record { scale = row.to; tick = nearest_tick row.by t })
   unfolding line_step
   line_taken from to = rw from (valid_kept row.to (nearest_tick row.by t) to)
 
 -- outside the table is no linear step
-pub never_table : {A : Type 0} (row : LineRow) (t : ℤ) → line_step row t ≡ OutsideTable → A
+pub never_table : {A : Type 0} (row : LineRow) (t : ℤ) → line_step row t ≡ (Err Outside.Table) → A
 unfolding line_step
 never_table {A} row t e = by (is_valid t) e
   where
-    by : (valid : Bool) → cond valid (kept_in row.to (nearest_tick row.by t)) OutsideRange ≡ OutsideTable → A
+    by : (valid : Bool) → cond valid (kept_in row.to (nearest_tick row.by t)) (Err Outside.Range) ≡ (Err Outside.Table) → A
     by true e = kept_inside row.to (nearest_tick row.by t) e
     by false e = let z : ◌≡◌ {A = ℕ} 0 1 = cc in let no : ⊥ = omega arith in absurd no
 
@@ -139,22 +140,22 @@ turned_twice row = ap (with_plus row) (neg_ℤ-neg_ℤ row.by.plus)
         let by : Linear = record { times = row.by.times; over = row.by.over; plus = plus } in
         record { from = row.from; to = row.to; by = by }
 
-module _ (row : LineRow) (p : Proper row.by) (t : ℤ) (e : Epoch) (there : line_step row t ≡ Reached e) where
+module _ (row : LineRow) (p : Proper row.by) (t : ℤ) (e : Epoch) (there : line_step row t ≡ Ok e) where
   pub line_half : nat_abs (pos 2 *ℤ (pos row.by.over *ℤ e.tick -ℤ exact row.by t)) ≤ row.by.over
   line_half = rw (← tick_took row t e there) (nearest_half row.by p t)
 
-  pub line_in_order : (u : ℤ) (f : Epoch) → line_step row u ≡ Reached f → t ≤ℤ u → e.tick ≤ℤ f.tick
+  pub line_in_order : (u : ℤ) (f : Epoch) → line_step row u ≡ Ok f → t ≤ℤ u → e.tick ≤ℤ f.tick
   line_in_order u f later h = rw (← tick_took row t e there, ← tick_took row u f later) (nearest_in_order row.by p t u h)
 
-  pub line_back : (f : Epoch) → line_step (turned row) e.tick ≡ Reached f → nat_abs (f.tick -ℤ t) ≤ 1
+  pub line_back : (f : Epoch) → line_step (turned row) e.tick ≡ Ok f → nat_abs (f.tick -ℤ t) ≤ 1
   line_back f again = rw (← tick_took (turned row) e.tick f again, ← tick_took row t e there) (nearest_back row.by p t)
 
 -- GPS–TAI and TAI–TT come back exactly
 abbrev shift : Scale → Scale → ℤ → LineRow
 shift from to by = record { from = from; to = to; by = record { times = 1; over = 1; plus = by } }
 
-pub shift_back : (from to : Scale) (by t : ℤ) (e f : Epoch) → line_step (shift from to by) t ≡ Reached e
-    → line_step (turned (shift from to by)) e.tick ≡ Reached f → f.tick ≡ t
+pub shift_back : (from to : Scale) (by t : ℤ) (e f : Epoch) → line_step (shift from to by) t ≡ Ok e
+    → line_step (turned (shift from to by)) e.tick ≡ Ok f → f.tick ≡ t
 shift_back from to by t e f there again =
     let row = shift from to by in
     sym (tick_took (turned row) e.tick f again)

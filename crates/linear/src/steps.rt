@@ -8,7 +8,7 @@ ghost use Rattle.scales.specs.Linear.{inverse};
 ghost use Rattle.scales.specs.Rows.{line_row, turned, line_step};
 
 use crate::drift::{biased, moved, tcb_gains, tcg_gains, tdb_loses, tt_loses};
-use scales::answer::{Epoch, Stepped, keep};
+use scales::answer::{Epoch, Outside, keep};
 use scales::path::Line;
 use scales::scale::Scale;
 use scales::tick::valid;
@@ -120,12 +120,12 @@ impl Tcb {
 }
 
 // The step along a line, from an epoch of the scale in which it begins.
-pub fn along(line: Line, epoch: Epoch) -> Stepped
+pub fn along(line: Line, epoch: Epoch) -> Result<Epoch, Outside>
     ensures { result ≡ line_step (line_row line) epoch.tick }
 {
     let tick = epoch.tick;
     if !valid(tick) {
-        return Stepped::OutsideRange;
+        return Err(Outside::Range);
     }
     match line {
         Line::GpsTai => keep(Scale::Tai, Gps(tick).to_tai().0),
@@ -136,12 +136,12 @@ pub fn along(line: Line, epoch: Epoch) -> Stepped
 }
 
 // The step back, from an epoch of the scale in which the line ends.
-pub fn back(line: Line, epoch: Epoch) -> Stepped
+pub fn back(line: Line, epoch: Epoch) -> Result<Epoch, Outside>
     ensures { result ≡ line_step (turned (line_row line)) epoch.tick }
 {
     let tick = epoch.tick;
     if !valid(tick) {
-        return Stepped::OutsideRange;
+        return Err(Outside::Range);
     }
     match line {
         Line::GpsTai => keep(Scale::Gps, Tai(tick).to_gps().0),

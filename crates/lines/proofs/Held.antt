@@ -1,5 +1,7 @@
 -- An answer that code holds has numbers of their types, so that its line is no longer than the
 -- longest. Assumes nothing.
+use Rattle.scales.specs.Answers.{Answer, converted_to}
+use Rattle.std.specs.Prelude.{Err, Ok}
 use mathlib.Core.List.{List}
 use Prim.Native.Nat.{◌≤◌}
 use lib.IntN.{ℤ}
@@ -11,8 +13,6 @@ use denote.Enum.Declared.{row}
 use denote.Enum.Laws.{owed}
 use denote.Struct.Declared as structs
 use denote.Struct.Laws as struct_laws
-use Rattle.scales.specs.declared.answer.Answer.{Answer}
-use Rattle.scales.specs.declared.answer.Answer.TheVariants.{Converted, Refused}
 use Rattle.scales.specs.declared.refusal.Refusal.{Refusal}
 use Rattle.scales.specs.contracts.answer.Answer.{the_type}
 use Rattle.scales.proofs.answer.Answer.TheLaws.{the_laws}
@@ -33,11 +33,11 @@ short_refused refusal values held = refused_longest refusal.number (struct_laws.
 
 short_answer : (to : ℤ) (answer : Answer) (values : List Val) → SFits w64 to → Is (row the_type) answer values
     → length (line_text to answer) ≤ longest
-short_answer to (Converted epoch steps) values f held =
-    let told = owed the_type the_laws (Converted epoch steps) values held in
-    let numbers = struct_laws.owed epoch-type epoch-laws epoch _ told.0 in
-    answer_longest to epoch.tick steps f (record { sfits = numbers.1.0.1 }) told.1.0.1
-short_answer to (Refused refusal) values f held = short_refused refusal _ (owed the_type the_laws (Refused refusal) values held).0
+short_answer to (Ok converted) values f held =
+    let told = owed the_type the_laws (converted_to converted.epoch converted.steps) values held in
+    let numbers = struct_laws.owed converted.epoch-type converted.epoch-laws converted.epoch _ told.0 in
+    answer_longest to converted.epoch.tick converted.steps f (record { sfits = numbers.1.0.1 }) told.1.0.1
+short_answer to (Err refusal) values f held = short_refused refusal _ (owed the_type the_laws (Err refusal) values held).0
 
 pub short_answered : (answered : Answered) (values : List Val) → Is (structs.row answered-type) answered values
     → length (line_text answered.to answered.answer) ≤ longest

@@ -1,5 +1,7 @@
 -- The lines' numbers: line k of an input is read as line k, and is refused with 9 and place k where
 -- it is not understood. Assumes nothing.
+use Rattle.line.specs.Answers.{Line}
+use Rattle.std.specs.Prelude.{Err}
 use borrow.Author.Tests.{lt-ltb, le-ltb}
 use mathlib.Core.Path.{◌≡◌, refl, ◌∙◌, ap}
 use mathlib.Core.Bool.{true, false}
@@ -11,12 +13,11 @@ use lib.Dec.{ltb, leb}
 use lib.IntN.{ℤ}
 use lib.ListN.{length, get_or}
 use Rattle.scales.specs.declared.refusal.Refusal.{Refusal}
-use Rattle.line.specs.declared.reading.Line.{Line}
-use Rattle.line.specs.declared.reading.Line.TheVariants.{Refused}
 use Rattle.line.specs.Numbers.{number_in}
 use Rattle.line.specs.Lines.{fields, three_numbers, not_understood, line_read}
 use Rattle.line.proofs.Cases.{either}
-use Rattle.lines.specs.Output.{lines_of, greatest_line, next_line, read_from, line_after, lines_read}
+use Rattle.lines.specs.Output.{lines_of, greatest_line, next_line, read_from, line_after}
+use Rattle.lines.specs.Output.{lines_read}
 
 -- ---- the next line's number
 pub next_is : (line : ℕ) → line < greatest_line → next_line line ≡ suc line
@@ -90,7 +91,7 @@ line_read_lem input before other h k =
 
 -- ---- '9: text line not understood', with the line's number as its place
 numbers_refused : (numbers : List (Option ℤ)) (line : ℕ) (refusal : Refusal)
-    → three_numbers numbers line ≡ Refused refusal
+    → three_numbers numbers line ≡ Err refusal
     → refusal ≡ record { number = 9; place = line }
 numbers_refused [] line refusal e = cc
 numbers_refused (none ∷ more) line refusal e = cc
@@ -101,9 +102,9 @@ numbers_refused (some from ∷ some to ∷ none ∷ more) line refusal e = cc
 numbers_refused (some from ∷ some to ∷ some tick ∷ []) line refusal e = let z : ◌≡◌ {A = ℕ} 0 1 = cc in let no : ⊥ = omega arith in absurd no
 numbers_refused (some from ∷ some to ∷ some tick ∷ extra ∷ more) line refusal e = cc
 
-pub not_understood_lem : (text : List ℕ) (line : ℕ) (refusal : Refusal) → line_read text line ≡ Refused refusal
+pub not_understood_lem : (text : List ℕ) (line : ℕ) (refusal : Refusal) → line_read text line ≡ Err refusal
     → refusal ≡ record { number = 9; place = line }
 unfolding line_read
 not_understood_lem text line refusal e = either (leb (length text) 64)
     (λ (h : leb (length text) 64 ≡ true). numbers_refused (map number_in (fields text)) line refusal (rw h at e))
-    (λ (h : leb (length text) 64 ≡ false). let f : not_understood line ≡ Refused refusal = rw h at e in cc)
+    (λ (h : leb (length text) 64 ≡ false). let f : not_understood line ≡ Err refusal = rw h at e in cc)

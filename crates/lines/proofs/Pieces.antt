@@ -1,4 +1,6 @@
 -- An input that comes in pieces is answered as the whole of it. Assumes nothing.
+use Rattle.line.specs.Answers.{Line}
+use Rattle.blocks.specs.Answers.{Judged}
 use mathlib.Core.Path.{◌≡◌, refl, sym, ◌∙◌, ap}
 use mathlib.Core.Bool.{true, false}
 use mathlib.Core.List.{List, [], ◌∷◌, ◌++◌, append_assoc, append-nil}
@@ -9,15 +11,15 @@ use lib.IntN.{ℤ}
 use lib.ListN.{length, take, length-append}
 use lib.Seq.{take_all, length-take-le, append_snoc}
 use lib.Dec.{eqb, leb}
-use Rattle.blocks.specs.declared.answer.Judged.{Judged}
-use Rattle.line.specs.declared.reading.Line.{Line}
 use Rattle.line.specs.Lines.{line_read}
 use Rattle.printing.specs.Texts.{refused_line}
 use Rattle.line.proofs.Cases.{either}
-use Rattle.lines.specs.Output.{lines_of, next_line, read_from, line_after, printed_for, printed_lines, output_from, has_newline}
-use Rattle.lines.specs.Output.{whole_lines, unfinished, kept_of, output_in_pieces, joined_pieces}
+use Rattle.lines.specs.Output.{lines_of, next_line, read_from, line_after, printed_for}
+use Rattle.lines.specs.Output.{printed_lines, output_from, has_newline, whole_lines, unfinished}
+use Rattle.lines.specs.Output.{kept_of, output_in_pieces, joined_pieces}
 use Rattle.lines.proofs.Numbering.{after_one, after_both, read_both, read_one}
-use Rattle.lines.proofs.Splits.{plain_front, has_grown, whole_then, unfinished_plain, whole_ended, lines_whole, lines_ended, lines_last}
+use Rattle.lines.proofs.Splits.{plain_front, has_grown, whole_then, unfinished_plain, whole_ended}
+use Rattle.lines.proofs.Splits.{lines_whole, lines_ended, lines_last}
 
 module _ (table : Judged) (coefficients : List ℤ) where
   -- over one table

@@ -1,5 +1,9 @@
 -- The whole program: over the table as it was judged and taken, an input that comes in any pieces
 -- is answered as `tickline_of` says. Assumes nothing.
+use Rattle.line.specs.Answers.{Line, numbers_read}
+use Rattle.scales.specs.Answers.{Read}
+use Rattle.blocks.specs.Answers.{Judged, judged_number, judged_count, judged_degree}
+use Rattle.std.specs.Prelude.{Err, Ok}
 use mathlib.Core.Path.{◌≡◌, refl, sym, ◌∙◌, ap}
 use mathlib.Core.Bool.{true, false}
 use mathlib.Core.List.{List, [], ◌∷◌, ◌++◌, map}
@@ -12,11 +16,7 @@ use lib.Seq.{append_snoc}
 use Rattle.scales.specs.declared.refusal.Refusal.{Refusal}
 use Rattle.scales.specs.declared.scale.Purpose.TheVariants as P
 use Rattle.image.specs.Image.{coefficients_stored}
-use Rattle.blocks.specs.declared.answer.Judged.{Judged}
-use Rattle.blocks.specs.declared.answer.Judged.TheVariants as J
-use Rattle.blocks.specs.Answers.{judged_number, judged_count, judged_degree}
 use Rattle.blocks.specs.Judging.{judged}
-use Rattle.scales.specs.declared.answer.Read.{Read}
 use Rattle.dates.specs.Readings.{in_range}
 use Rattle.desk.specs.declared.asked.Asked.{Asked}
 use Rattle.desk.specs.declared.asked.Asked.TheVariants as A
@@ -25,47 +25,46 @@ use Rattle.desk.specs.Conversion.{convert_judged}
 use Rattle.desk.specs.Inner.{asked_of, convert_asked}
 use Rattle.desk.proofs.Asking.{of_tick}
 use Rattle.opened.proofs.Opening.{coefficients_are}
-use Rattle.line.specs.declared.reading.Line.{Line}
-use Rattle.line.specs.declared.reading.Line.TheVariants.{Numbers, Refused}
 use Rattle.line.specs.Numbers.{number_in}
 use Rattle.line.specs.Lines.{fields, three_numbers, line_read}
 use Rattle.printing.specs.Texts.{line_text}
 use Rattle.line.proofs.Cases.{either}
-use Rattle.lines.specs.Output.{lines_of, next_line, read_from, line_after, lines_read, printed_for, printed_lines, output_from}
-use Rattle.lines.specs.Output.{tickline_of, has_newline, whole_lines, kept_of, output_in_pieces, joined_pieces}
+use Rattle.lines.specs.Output.{lines_of, next_line, read_from, line_after, lines_read, printed_for}
+use Rattle.lines.specs.Output.{printed_lines, output_from, tickline_of, has_newline, whole_lines}
+use Rattle.lines.specs.Output.{kept_of, output_in_pieces, joined_pieces}
 use Rattle.lines.proofs.Pieces.{output_whole, in_pieces}
 use Rattle.lines.proofs.Splits.{whole_ended, whole_after, unfinished_after, lines_ended}
 
 -- ---- a table that was refused has no use for coefficients
 module _ (refusal : Refusal) (one other : List ℤ) where
   asked_any : (asked : Asked) (read : Read)
-      → convert_asked asked read (J.Refused refusal) one ≡ convert_asked asked read (J.Refused refusal) other
-  asked_any (A.Plain from to) read = refl
-  asked_any (A.Crossing from to) read = refl
-  asked_any (A.Refused r) read = refl
+      → convert_asked asked read (Err refusal) one ≡ convert_asked asked read (Err refusal) other
+  asked_any (Ok (A.Plain from to)) read = refl
+  asked_any (Ok (A.Crossing from to)) read = refl
+  asked_any (Err r) read = refl
 
   converted_any : (from to : ℕ) (tick : ℤ)
-      → convert_judged P.Line from to tick (J.Refused refusal) one
-      ≡ convert_judged P.Line from to tick (J.Refused refusal) other
+      → convert_judged P.Line from to tick (Err refusal) one
+      ≡ convert_judged P.Line from to tick (Err refusal) other
   converted_any from to tick =
       let asked = asked_of P.Line P.Line from to true true in
-      sym (of_tick P.Line from to tick (J.Refused refusal) one asked (in_range tick) refl refl)
+      sym (of_tick P.Line from to tick (Err refusal) one asked (in_range tick) refl refl)
       ∙ asked_any asked (in_range tick)
-      ∙ of_tick P.Line from to tick (J.Refused refusal) other asked (in_range tick) refl refl
+      ∙ of_tick P.Line from to tick (Err refusal) other asked (in_range tick) refl refl
 
-  line_any : (line : Line) → printed_for (J.Refused refusal) one line ≡ printed_for (J.Refused refusal) other line
+  line_any : (line : Line) → printed_for (Err refusal) one line ≡ printed_for (Err refusal) other line
   unfolding printed_for
-  line_any (Numbers from to tick) = ap (line_text to) (converted_any _ _ _)
-  line_any (Refused r) = refl
+  line_any (Ok numbers) = ap (line_text numbers.to) (converted_any _ _ _)
+  line_any (Err r) = refl
 
   lines_any : (lines : List Line)
-      → printed_lines (J.Refused refusal) one lines ≡ printed_lines (J.Refused refusal) other lines
+      → printed_lines (Err refusal) one lines ≡ printed_lines (Err refusal) other lines
   unfolding printed_lines
   lines_any [] = refl
   lines_any (line ∷ more) = rw (line_any line, lines_any more)
 
   output_any : (input : List ℕ)
-      → output_from 1 (J.Refused refusal) one input ≡ output_from 1 (J.Refused refusal) other input
+      → output_from 1 (Err refusal) one input ≡ output_from 1 (Err refusal) other input
   unfolding output_from
   output_any input = lines_any (lines_read input)
 
@@ -83,9 +82,9 @@ however_cut bytes coefficients pieces lent = in_pieces (judged bytes) coefficien
         ≡ coefficients_stored bytes (judged_count table) (judged_degree table))
         → output_from 1 table coefficients (joined_pieces pieces)
         ≡ output_from 1 table (coefficients_in bytes) (joined_pieces pieces)
-    by (J.Accepted table) is lent =
-        ap (λ (l : List ℤ). output_from 1 (J.Accepted table) l (joined_pieces pieces)) (lent refl ∙ sym (coefficients_are bytes table is))
-    by (J.Refused refusal) is lent = output_any refusal coefficients (coefficients_in bytes) (joined_pieces pieces)
+    by (Ok table) is lent =
+        ap (λ (l : List ℤ). output_from 1 (Ok table) l (joined_pieces pieces)) (lent refl ∙ sym (coefficients_are bytes table is))
+    by (Err refusal) is lent = output_any refusal coefficients (coefficients_in bytes) (joined_pieces pieces)
 
 -- ---- a line's number is not printed
 module _ (table : Judged) (coefficients : List ℤ) (one other : ℕ) where

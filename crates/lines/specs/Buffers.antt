@@ -1,6 +1,6 @@
 -- What the functions ask of the buffers that they are lent, and what they leave in them.
+use Rattle.blocks.specs.Answers.{Judged}
 use Rattle.std.specs.Prelude.{◌≡◌, false, List, ℕ, ◌+◌, ◌*◌, ◌≤◌, ℤ, length, take}
-use Rattle.blocks.specs.declared.answer.Judged.{Judged}
 use Rattle.opened.specs.Opened.{Lent}
 use Rattle.printing.specs.Buffers.{longest, TextPut}
 use Rattle.lines.specs.declared.Places.{Places}

@@ -1,17 +1,15 @@
 -- What the program prints: '`tickline` reads lines of standard input, `from to tick`, ..; the last
 -- newline may be missing. .. It prints `to tick steps` .. or `refused N`, one line each, no
 -- header.'
-use Rattle.std.specs.Prelude.{Bool, false, cond, ◌||◌, List, [], ◌∷◌, ◌++◌, ℕ, suc, eqb, ltb, ℤ}
-use Rattle.std.specs.Prelude.{pos, take}
-use Rattle.scales.specs.declared.answer.Answer.{Answer}
-use Rattle.scales.specs.declared.answer.Answer.TheVariants as A
+use Rattle.line.specs.Answers.{Line, numbers_read}
+use Rattle.blocks.specs.Answers.{Judged}
+use Rattle.scales.specs.Answers.{Answer}
+use Rattle.std.specs.Prelude.{Err, Bool, false, cond, ◌||◌, List, [], ◌∷◌, ◌++◌, ℕ, suc, eqb, ltb}
+use Rattle.std.specs.Prelude.{ℤ, pos, take, Ok}
 use Rattle.scales.specs.declared.scale.Purpose.TheVariants as P
-use Rattle.blocks.specs.declared.answer.Judged.{Judged}
 use Rattle.blocks.specs.Judging.{judged}
 use Rattle.opened.specs.Opened.{coefficients_in}
 use Rattle.desk.specs.Conversion.{convert_judged}
-use Rattle.line.specs.declared.reading.Line.{Line}
-use Rattle.line.specs.declared.reading.Line.TheVariants.{Numbers, Refused}
 use Rattle.line.specs.Lines.{line_read, code_of, starting_with}
 use Rattle.printing.specs.Texts.{line_text}
 use Rattle.lines.specs.declared.Answered.{Answered}
@@ -50,14 +48,14 @@ lines_read input = read_from 1 (lines_of input)
 -- what a line is answered with: the conversion's answer, or the refusal of a line that is not
 -- understood
 abbrev pub answer_of : Judged → List ℤ → Line → Answer
-answer_of table coefficients (Numbers from to tick) =
-    convert_judged P.Line (code_of from) (code_of to) tick table coefficients
-answer_of table coefficients (Refused refusal) = A.Refused refusal
+answer_of table coefficients (Ok numbers) =
+    convert_judged P.Line (code_of numbers.from) (code_of numbers.to) numbers.tick table coefficients
+answer_of table coefficients (Err refusal) = Err refusal
 
 -- '`to` is the code asked'. A line that is not understood asks for none, and none is printed
 abbrev pub to_of : Line → ℤ
-to_of (Numbers from to tick) = to
-to_of (Refused refusal) = pos 0
+to_of (Ok numbers) = numbers.to
+to_of (Err refusal) = pos 0
 
 abbrev pub answered_to : Judged → List ℤ → Line → Answered
 answered_to table coefficients line =

@@ -9,15 +9,15 @@ ghost use Rattle.opened.specs.Opened.{Lent};
 ghost use Rattle.line.specs.Lines.{line_read};
 ghost use Rattle.printing.specs.Buffers.{TextPut};
 ghost use Rattle.lines.specs.Output.{next_line, answered_to, output_from};
-ghost use Rattle.lines.specs.Buffers.{Answering, Printed, Unfinished, LinesReady};
-ghost use Rattle.lines.specs.Buffers.{LinesAnswered};
+ghost use Rattle.lines.specs.Buffers.{Answering, Printed, Unfinished, LinesReady, LinesAnswered};
 ghost use Rattle.lines.specs.Buffers.{Moving, TextFilled, Fed};
 
-use blocks::answer::Judged;
 use desk::conversion::convert_judged;
-use line::reading::{Line, code_of, read_line};
+use image::table::Table;
+use line::reading::{code_of, read_line};
 use printing::writing::write_line;
-use scales::answer::Answer;
+use scales::answer::Converted;
+use scales::refusal::Refusal;
 use scales::scale::Purpose;
 
 // How far an input is answered: a place in the text and one in the output, and the number of the
@@ -34,7 +34,7 @@ pub struct Places {
 #[derive(Clone, Copy)]
 struct Answered {
     to: i64,
-    answer: Answer,
+    answer: Result<Converted, Refusal>,
 }
 
 // The number of the line after another. A place has 64 bits: the greatest is the number of each
@@ -50,25 +50,28 @@ fn next_line(line: u64) -> u64
 
 // What a line of text, given without its newline, is answered with. `line` is its number from 1,
 // the place of refusal 9.
-fn answer_to(text: &[u8], line: u64, judged: Judged, coefficients: &[i64]) -> Answered
+fn answer_to(text: &[u8], line: u64, judged: Result<Table, Refusal>, coefficients: &[i64]) -> Answered
     requires { Lent judged coefficients.now }
     ensures { result ≡ answered_to judged coefficients.now (line_read text.now line) }
 {
     match read_line(text, line) {
-        Line::Numbers(from, to, tick) => {
+        Ok(numbers) => {
             let answer = convert_judged(
                 Purpose::Line,
-                code_of(from),
-                code_of(to),
-                tick,
+                code_of(numbers.from),
+                code_of(numbers.to),
+                numbers.tick,
                 judged,
                 coefficients,
             );
-            Answered { to, answer }
+            Answered {
+                to: numbers.to,
+                answer,
+            }
         }
-        Line::Refused(refusal) => Answered {
+        Err(refusal) => Answered {
             to: 0,
-            answer: Answer::Refused(refusal),
+            answer: Err(refusal),
         },
     }
 }
@@ -77,7 +80,7 @@ fn answer_to(text: &[u8], line: u64, judged: Judged, coefficients: &[i64]) -> An
 fn answer_line(
     text: &[u8],
     line: u64,
-    judged: Judged,
+    judged: Result<Table, Refusal>,
     coefficients: &[i64],
     out: &mut [u8],
     at: usize,
@@ -96,7 +99,7 @@ fn answer_line(
 fn answer_whole(
     text: &[u8],
     first: u64,
-    judged: Judged,
+    judged: Result<Table, Refusal>,
     coefficients: &[i64],
     out: &mut [u8],
 ) -> Places
@@ -148,7 +151,7 @@ pub fn feed(
     text: &mut [u8],
     filled: usize,
     first: u64,
-    judged: Judged,
+    judged: Result<Table, Refusal>,
     coefficients: &[i64],
     out: &mut [u8],
 ) -> Places
@@ -171,7 +174,7 @@ pub fn feed(
 pub fn answer_last(
     text: &[u8],
     line: u64,
-    judged: Judged,
+    judged: Result<Table, Refusal>,
     coefficients: &[i64],
     out: &mut [u8],
 ) -> usize

@@ -1,5 +1,6 @@
 -- A table that bytes were judged to hold: its numbers are few, its coefficients are those that the
 -- bytes hold, and they may be lent. Assumes nothing.
+use Rattle.std.specs.Prelude.{Err, Ok}
 use mathlib.Core.Path.{◌≡◌, subst}
 use mathlib.Core.List.{List, []}
 use Prim.Native.Nat.{ℕ}
@@ -9,17 +10,16 @@ use Rattle.form.specs.Few.{Few}
 use Rattle.image.specs.declared.table.Table.{Table}
 use Rattle.image.specs.Image.{table_of, coefficients_stored}
 use Rattle.granules.specs.Accepted.{Accepted}
-use Rattle.blocks.specs.declared.answer.Judged.TheVariants as J
 use Rattle.blocks.specs.Judging.{judged}
 use Rattle.blocks.proofs.Accepting.{accepted_table, accepted_of}
 use Rattle.opened.specs.Opened.{coefficients_in, Lent}
 
 -- a table that was refused has no coefficients
-pub lent_refused : (refusal : Refusal) → Lent (J.Refused refusal) []
+pub lent_refused : (refusal : Refusal) → Lent (Err refusal) []
 lent_refused refusal = record { accepted = λ table e. let z : ◌≡◌ {A = ℕ} 0 1 = cc in let no : ⊥ = omega arith in absurd no }
 
-module _ (bytes : List ℕ) (table : Table) (opened : judged bytes ≡ J.Accepted table) where
-  pub table_lent : Lent (J.Accepted table) (coefficients_stored bytes table.count table.degree)
+module _ (bytes : List ℕ) (table : Table) (opened : judged bytes ≡ Ok table) where
+  pub table_lent : Lent (Ok table) (coefficients_stored bytes table.count table.degree)
   table_lent = record {
     accepted = λ other e.
         let same : table ≡ other = cc in

@@ -5,7 +5,8 @@ use Prim.Native.Nat.{ℕ, suc, ◌+◌, ◌≤◌, ◌<◌}
 use native.Mathlib.Omega.{arith}
 use native.Mathlib.Numerals.{add-one}
 use lib.ListN.{length, take, drop, set, length-append, length-take, length-drop, length-set}
-use lib.Seq.{length-take-le, take_at, drop-drop, drop-append-add, set_split, take-set-le, drop-set-lt, drop-cons, get_or-set_same, append_snoc}
+use lib.Seq.{length-take-le, take_at, drop-drop, drop-append-add, set_split, take-set-le}
+use lib.Seq.{drop-set-lt, drop-cons, get_or-set_same, append_snoc}
 use Rattle.printing.specs.Buffers.{Room, with_text, TextPut}
 
 -- a buffer keeps its length

@@ -6,7 +6,8 @@ use lib.IntN.{ℤ, pos, negsuc}
 use lib.ListN.{length, length-append}
 use mir.Syntax.{w64}
 use mir.Val.{SFits}
-use Rattle.printing.specs.Texts.{decimal, integer_text, answer_text, refused_text, printed, answer_line, refused_line}
+use Rattle.printing.specs.Texts.{decimal, integer_text, answer_text, refused_text, printed}
+use Rattle.printing.specs.Texts.{answer_line, refused_line}
 use Rattle.printing.specs.Buffers.{longest}
 use Rattle.printing.proofs.Decimals.{few_digits}
 

@@ -1,4 +1,5 @@
 -- A printed answer's numbers read back to themselves. Assumes nothing.
+use Rattle.line.specs.Answers.{numbers_read}
 use borrow.Author.Tests.{ne_eqb, le-leb, leb-true, ltb-true, not-true}
 use mathlib.Core.Path.{◌≡◌, refl, ◌∙◌, ap}
 use mathlib.Core.Bool.{Bool, true, false, not, ◌&&◌}
@@ -15,7 +16,6 @@ use Rattle.numbers.specs.Signs.{signed}
 use Rattle.line.specs.Numbers.{is_digit, all_digits, fits_signed, fitting, digits_number, number_in}
 use Rattle.line.specs.Lines.{fields, line_read}
 use Rattle.printing.specs.Texts.{decimal, integer_text, answer_text}
-use Rattle.line.specs.declared.reading.Line.TheVariants.{Numbers}
 use Rattle.numbers.proofs.Flags.{both}
 use Rattle.line.proofs.Runs.{digit_bounds, digit_no_space, some_digits}
 use Rattle.line.proofs.Fitting.{positive_fits, negative_fits}
@@ -108,7 +108,7 @@ short to tick steps a b c =
 -- far below 2^63
 pub line_reads_back : (to tick : ℤ) (steps line : ℕ) → fits_signed to ≡ true → fits_signed tick ≡ true
     → fits_signed (pos steps) ≡ true
-    → line_read (answer_text to tick steps) line ≡ Numbers to tick (pos steps)
+    → line_read (answer_text to tick steps) line ≡ numbers_read to tick (pos steps)
 unfolding line_read
 line_reads_back to tick steps line a b c =
     rw (

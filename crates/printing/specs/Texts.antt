@@ -1,9 +1,8 @@
 -- What is printed: '`to tick steps` (`to` is the code asked, in plain decimals, 0 as 0) or `refused
 -- N`, one line each, no header'.
-use Rattle.std.specs.Prelude.{cond, List, [], ◌∷◌, ◌++◌, ℕ, zero, suc, ◌+◌, ◌/◌, ◌%◌, ltb, ℤ, pos}
-use Rattle.std.specs.Prelude.{negsuc}
-use Rattle.scales.specs.declared.answer.Answer.{Answer}
-use Rattle.scales.specs.declared.answer.Answer.TheVariants.{Converted, Refused}
+use Rattle.scales.specs.Answers.{Answer, converted_to}
+use Rattle.std.specs.Prelude.{Err, cond, List, [], ◌∷◌, ◌++◌, ℕ, zero, suc, ◌+◌, ◌/◌, ◌%◌, ltb, ℤ}
+use Rattle.std.specs.Prelude.{pos, negsuc, Ok}
 
 -- a number in plain decimals, of at most so many digits: no leading zero, and 0 as 0
 unfoldable pub decimal_within : ℕ → ℕ → List ℕ
@@ -49,5 +48,5 @@ refused_line number = printed (refused_text number)
 
 -- the line of an answer to a conversion into the scale of the code `to`
 abbrev pub line_text : ℤ → Answer → List ℕ
-line_text to (Converted epoch steps) = answer_line to epoch.tick steps
-line_text to (Refused refusal) = refused_line refusal.number
+line_text to (Ok converted) = answer_line to converted.epoch.tick converted.steps
+line_text to (Err refusal) = refused_line refusal.number

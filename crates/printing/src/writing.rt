@@ -6,7 +6,8 @@ ghost use Rattle.printing.specs.Texts.{answer_line, refused_line, line_text};
 ghost use Rattle.printing.specs.Buffers.{Room, TextPut, longest};
 
 use crate::decimal::{put_decimal, put_integer};
-use scales::answer::Answer;
+use scales::answer::Converted;
+use scales::refusal::Refusal;
 
 // No printed line is longer: the callers empty their buffer when less than this is left of it.
 pub const LONGEST: usize = 53;
@@ -51,12 +52,12 @@ fn write_refused(out: &mut [u8], at: usize, number: u32) -> usize
 
 // Puts the line of an answer to a conversion into the scale of the code `to`, as the line read had
 // it. The callers keep room for the longest line.
-pub fn write_line(out: &mut [u8], at: usize, to: i64, answer: Answer) -> usize
+pub fn write_line(out: &mut [u8], at: usize, to: i64, answer: Result<Converted, Refusal>) -> usize
     requires { at + longest ≤ length out.old }
     ensures { TextPut out.old at (line_text to answer) out.new result }
 {
     match answer {
-        Answer::Converted(epoch, steps) => write_answer(out, at, to, epoch.tick, steps),
-        Answer::Refused(refusal) => write_refused(out, at, refusal.number),
+        Ok(converted) => write_answer(out, at, to, converted.epoch.tick, converted.steps),
+        Err(refusal) => write_refused(out, at, refusal.number),
     }
 }

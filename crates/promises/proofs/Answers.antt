@@ -1,5 +1,9 @@
 -- What an accepted conversion answers: a valid tick, the scale of the second code, and the path's
 -- number of steps. Assumes nothing.
+use Rattle.scales.specs.Answers.{Answer, converted_to, answer_number, answer_scale, answer_tick}
+use Rattle.scales.specs.Answers.{answer_steps, read_number, read_tick}
+use Rattle.scales.specs.declared.path.Step.{Step}
+use Rattle.std.specs.Prelude.{None, Ok, Option, Some}
 use mathlib.Core.Path.{◌≡◌, refl, ◌∙◌}
 use mathlib.Core.Bool.{Bool, true, false, not}
 use mathlib.Core.List.{List}
@@ -8,28 +12,20 @@ use native.Mathlib.Nat.{zero-add}
 use native.Mathlib.Omega.{arith}
 use lib.IntN.{ℤ}
 use lib.ListN.{length}
-use Rattle.scales.specs.declared.answer.Answer.{Answer}
-use Rattle.scales.specs.declared.answer.Answer.TheVariants.{Converted}
-use Rattle.scales.specs.declared.path.Way.{Way}
-use Rattle.scales.specs.declared.path.Way.TheVariants.{Here, By}
 use Rattle.scales.specs.declared.scale.Scale.{Scale}
-use Rattle.scales.specs.Answers.{answer_number, answer_scale, answer_tick, answer_steps}
 use Rattle.scales.specs.Path.{next, path_within, longest_path, path, steps}
 use Rattle.scales.specs.Rows.{end}
 use Rattle.scales.specs.Path as path
 use Rattle.scales.specs.Tick.{is_valid}
 use Rattle.scales.proofs.Paths.{leads}
-use Rattle.scales.specs.declared.answer.Read.TheVariants as R
 use Rattle.dates.specs.declared.reading.Reading.{Reading}
-use Rattle.scales.specs.Answers.{read_number, read_tick}
 use Rattle.dates.specs.Readings.{refused_if, in_range, read_of}
 use Rattle.opened.specs.Opened.{coefficients_in}
 use Rattle.desk.specs.Conversion.{convert_into}
 use Rattle.walk.specs.Walk.{walk_between}
 use Rattle.walk.proofs.Steps.{steps_are}
 use Rattle.scales.specs.Scales.{named}
-use Rattle.promises.specs.Words.{table_in}
-use Rattle.promises.specs.Words.{start_of}
+use Rattle.promises.specs.Words.{table_in, start_of}
 use Rattle.promises.proofs.Exactly.{epoch_of, converted}
 use Rattle.desk.proofs.Valid.{read_valid, into_valid}
 use Rattle.promises.proofs.Walks.{scale_walked, walked}
@@ -45,7 +41,7 @@ module _ (writes : Purpose) (from to : ℕ) (reading : Reading) (leaps : List �
   -- it is a walk from the tick that was read
   pub walked_from : let tick = read_tick (read_of leaps reading) in
       walk_between (table_in bytes) (coefficients_in bytes) (named from) (named to) tick
-      ≡ Converted (epoch_of answer) (answer_steps answer)
+      ≡ converted_to (epoch_of answer) (answer_steps answer)
   unfolding read_tick
   walked_from =
       let w = walked writes from to reading leaps bytes (epoch_of answer) (answer_steps answer) (converted writes from to reading leaps bytes accepted) in
@@ -84,8 +80,8 @@ pub ticks_read : (t : ℤ) → read_number (in_range t) ≡ 0 → read_tick (in_
 unfolding in_range read_number read_tick
 ticks_read t e = by (is_valid t) e
   where
-    by : (valid : Bool) → read_number (refused_if (not valid) 4 0 (R.Tick t)) ≡ 0
-        → read_tick (refused_if (not valid) 4 0 (R.Tick t)) ≡ t
+    by : (valid : Bool) → read_number (refused_if (not valid) 4 0 (Ok t)) ≡ 0
+        → read_tick (refused_if (not valid) 4 0 (Ok t)) ≡ t
     by true e = refl
     by false e = let no : ⊥ = omega arith in absurd no
 
@@ -93,10 +89,10 @@ ticks_read t e = by (is_valid t) e
 pub longest_at_most : (from to : Scale) → steps from to ≤ longest_path
 longest_at_most = within longest_path
   where
-    on : (most : ℕ) (to : Scale) → ((from : Scale) → length (path_within most from to) ≤ most) → (way : Way)
+    on : (most : ℕ) (to : Scale) → ((from : Scale) → length (path_within most from to) ≤ most) → (way : Option Step)
         → length (path.step_and_rest (λ scale. path_within most scale to) way) ≤ suc most
-    on most to rest Here = omega arith
-    on most to rest (By step) = let h = rest (end step) in omega arith
+    on most to rest None = omega arith
+    on most to rest (Some step) = let h = rest (end step) in omega arith
 
     within : (most : ℕ) (from to : Scale) → length (path_within most from to) ≤ most
     within zero from to = omega arith

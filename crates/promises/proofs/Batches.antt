@@ -1,6 +1,11 @@
 -- What a batch answers, by its number, place, index and steps: the conversions of its entries, or
 -- the first of them that is refused; and that it looks at no table that its path does not cross.
 -- Assumes nothing.
+use Rattle.entries.specs.Batched.{Batched, refused_at, batched_number, batched_place, batched_index}
+use Rattle.entries.specs.Batched.{batched_steps}
+use Rattle.scales.specs.Answers.{Answer, converted_to, answer_number, answer_place, answer_tick}
+use Rattle.scales.specs.Answers.{answer_steps}
+use Rattle.std.specs.Prelude.{Err, Ok}
 use mathlib.Core.Path.{◌≡◌, refl, sym, ap}
 use mathlib.Core.Logic.{⊎_elim}
 use mathlib.Core.Bool.{false, true}
@@ -11,16 +16,11 @@ use lib.IntN.{ℤ, pos}
 use lib.ListN.{length, get_or}
 use lib.Signed.{◌≤ℤ◌}
 use Rattle.numbers.proofs.Order.{le_or_lt}
-use Rattle.scales.specs.declared.answer.Answer.{Answer}
 use Rattle.scales.specs.declared.answer.Epoch.{Epoch}
-use Rattle.scales.specs.Answers.{answer_number, answer_place, answer_tick, answer_steps}
 use Rattle.scales.specs.Path.{steps, crosses}
 use Rattle.scales.specs.Scales.{named}
 use Rattle.dates.specs.declared.reading.Reading.TheVariants.{Ticks}
 use Rattle.desk.specs.Conversion.{convert_of, convert_read, convert_into, between_of, answering}
-use Rattle.entries.specs.declared.batched.Batched.{Batched}
-use Rattle.entries.specs.declared.batched.Batched.TheVariants.{Converted, Refused}
-use Rattle.entries.specs.Batched.{batched_number, batched_place, batched_index, batched_steps}
 use Rattle.batch.specs.Batch.{batch_of, batch_into}
 use Rattle.batch.proofs.BatchTheorems as batches
 use Rattle.opened.specs.Opened.{coefficients_in}
@@ -39,11 +39,11 @@ use Rattle.scales.specs.declared.scale.Purpose.TheVariants as P
 
 -- what a number other than 0 means
 refused_is : (batched : Batched) → 0 < batched_number batched
-    → batched ≡ Refused (record { number = batched_number batched; place = batched_place batched })
+    → batched ≡ refused_at (record { number = batched_number batched; place = batched_place batched })
     (batched_index batched)
 unfolding batched_number batched_place batched_index
-refused_is (Converted many) h = let no : ⊥ = omega arith in absurd no
-refused_is (Refused refusal index) h = refl
+refused_is (Ok many) h = let no : ⊥ = omega arith in absurd no
+refused_is (Err refused) h = refl
 
 module _ (from to : ℕ) (ticks answers : List ℤ) (bytes : List ℕ) where
   abbrev batched : Batched
@@ -114,12 +114,12 @@ batch_of_one from to tick bytes =
     rw (batches.batch_tried from to bytes (tick ∷ []) 1 refl (omega arith))
     (by (convert_of from to (Ticks tick) [] bytes) (λ epoch n d. conversion_steps P.Reading from to (Ticks tick) [] bytes d))
   where
-    by : (answer : Answer) {many : ℕ} → ((epoch : Epoch) (n : ℕ) → answer ≡ Answer.Converted epoch n → n ≡ many)
-        → let b = earlier answer 0 (Converted many) in
+    by : (answer : Answer) {many : ℕ} → ((epoch : Epoch) (n : ℕ) → answer ≡ converted_to epoch n → n ≡ many)
+        → let b = earlier answer 0 (Ok many) in
         (batched_number b ≡ answer_number answer) × (batched_place b ≡ answer_place answer)
         × (batched_index b ≡ 0) × (batched_steps b ≡ answer_steps answer)
-    by (Answer.Converted epoch n) h = (refl, refl, refl, sym (h epoch n refl))
-    by (Answer.Refused refusal) h = (refl, refl, refl, refl)
+    by (Ok converted) h = (refl, refl, refl, sym (h converted.epoch converted.steps refl))
+    by (Err refusal) h = (refl, refl, refl, refl)
 
 -- ---- between two ticks that a conversion accepts it accepts every tick
 pub accepted_between : (from to : ℕ) (bytes : List ℕ) (t u v : ℤ)
@@ -134,8 +134,8 @@ accepted_between from to bytes t u v early late l m =
     entry : ℤ → Answer
     entry tick = between_of (named from) (named to) (in_range tick) (table_in bytes) (coefficients_in bytes)
 
-    by : (check : Check) {a b : Epoch} {n k : ℕ} → answering check (entry t) ≡ Answer.Converted a n
-        → answering check (entry v) ≡ Answer.Converted b k → answer_number (answering check (entry u)) ≡ 0
+    by : (check : Check) {a b : Epoch} {n k : ℕ} → answering check (entry t) ≡ converted_to a n
+        → answering check (entry v) ≡ converted_to b k → answer_number (answering check (entry u)) ≡ 0
     by passes e d =
         ap answer_number (entry_within (table_in bytes) (coefficients_in bytes) (named from) (named to) (bytes_held bytes) t u v (_, _, e) (_, _, d) l m).2
     by (refuses refusal) e d = apart e

@@ -2,6 +2,9 @@
 -- rising and complete, that its sums bound the gap of the exact sums, that it is empty exactly
 -- where all granules mean the same; and a refusal writes nothing and changes nothing kept. Assumes
 -- nothing.
+use Rattle.comparing.specs.Answers.{Compared, refused_of, compared_refused, compared_number}
+use Rattle.comparing.specs.Answers.{compared_entries, compared_left}
+use Rattle.std.specs.Prelude.{Ok, Err}
 use borrow.Author.Tests.{eq-eqb, eqb-true, eqb-false, le-leb, leb-true}
 use mathlib.Core.Path.{◌≡◌, refl, sym, ◌∙◌, ap}
 use mathlib.Core.Bool.{Bool, true, false, ◌&&◌}
@@ -25,18 +28,15 @@ use Rattle.image.specs.declared.table.Table.{Table}
 use Rattle.image.specs.Bounds.{Bounded}
 use Rattle.image.specs.Image.{table_of}
 use Rattle.image.proofs.Bounding.{at_least}
-use Rattle.blocks.specs.declared.answer.Judged.TheVariants.{Accepted}
 use Rattle.blocks.specs.Answers.{judged_refused, judged_number}
 use Rattle.blocks.specs.Judging.{judged, table_tests}
 use Rattle.blocks.proofs.Accepting.{accepted_of}
 use Rattle.blocks.proofs.Exactly.{judged_exactly}
 use Rattle.ephemeris.specs.Table.{H}
-use Rattle.comparing.specs.declared.Compared.{Compared}
-use Rattle.comparing.specs.declared.Compared.TheVariants.{Changes, Refused}
-use Rattle.comparing.specs.Answers.{compared_refused, compared_number, compared_entries, compared_left}
 use Rattle.comparing.specs.Asked.{BothAccepted}
 use Rattle.comparing.specs.Changes.{Entry, entry_in, differs, sum_of}
-use Rattle.comparing.specs.Comparing.{granules_of, changes_of, is_alike, compare_tests, compared_of, compared_into, list_put}
+use Rattle.comparing.specs.Comparing.{granules_of, changes_of, is_alike, compare_tests, compared_of}
+use Rattle.comparing.specs.Comparing.{compared_into, list_put}
 use Rattle.comparing.specs.Same.{SameCoefficients, SameSums}
 use Rattle.comparing.proofs.Complete.{each, rising, complete, none_listed}
 use Rattle.comparing.proofs.Entries.{Three, put_at, put_behind, put_length, put_none}
@@ -44,7 +44,8 @@ use Rattle.comparing.proofs.Exactly.{compare_exactly}
 use Rattle.comparing.proofs.Gap.{sums_near}
 use Rattle.comparing.proofs.Independent.{same_meaning}
 use Rattle.comparing.proofs.Reading.{granule_length}
-use Rattle.comparing.proofs.Sums.{largest_at_most, not_differs_same, same_not_differs, same_coefficients_sum}
+use Rattle.comparing.proofs.Sums.{largest_at_most, not_differs_same, same_not_differs}
+use Rattle.comparing.proofs.Sums.{same_coefficients_sum}
 use Rattle.comparing.proofs.Turned as turned
 use Rattle.promises.specs.Words.{sum_told, Lists}
 use Rattle.promises.proofs.Tables.{judged_is}
@@ -87,13 +88,13 @@ module _ (first second : List ℕ) (many : ℕ) (zero : compared_number (compare
   passes = (compare_exactly first second many).accepted zero
 
   -- both tables are accepted
-  first_accepted : judged first ≡ Accepted (table_of first)
+  first_accepted : judged first ≡ Ok (table_of first)
   unfolding judged
-  first_accepted = all_none judged_refused (Accepted (table_of first)) (table_tests first (table_of first)) passes.0
+  first_accepted = all_none judged_refused (Ok (table_of first)) (table_tests first (table_of first)) passes.0
 
-  second_accepted : judged second ≡ Accepted (table_of second)
+  second_accepted : judged second ≡ Ok (table_of second)
   unfolding judged
-  second_accepted = all_none judged_refused (Accepted (table_of second)) (table_tests second (table_of second)) passes.1.0
+  second_accepted = all_none judged_refused (Ok (table_of second)) (table_tests second (table_of second)) passes.1.0
 
   alike : is_alike (table_of first) (table_of second) ≡ true
   alike = single_told 20 _ passes.1.1.0.0
@@ -114,9 +115,9 @@ module _ (first second : List ℕ) (many : ℕ) (zero : compared_number (compare
   room : 3 * length (changes_of first second) ≤ many
   room = leb-true _ _ (single_told 8 _ passes.1.1.0.1.0)
 
-  compared_is : compared_of first second many ≡ Changes (length (changes_of first second))
+  compared_is : compared_of first second many ≡ Ok (length (changes_of first second))
   unfolding compared_of
-  compared_is = all_none_of compared_refused (Changes (length (changes_of first second))) (compare_tests first second many) passes
+  compared_is = all_none_of compared_refused (Ok (length (changes_of first second))) (compare_tests first second many) passes
 
   -- 'its length is returned'
   pub length_told : compared_entries (compared_of first second many) ≡ length (changes_of first second)
@@ -208,7 +209,7 @@ module _ (first second : List ℕ) (many : ℕ) (zero : compared_number (compare
   bounded : Bounded t
   bounded = (accepted_of first t (first_accepted first second many zero)).bounds
 
-  few : (b : List ℕ) (g : ℕ) → judged b ≡ Accepted (table_of b) → length (granules_of b g) ≤ most_degree + 1
+  few : (b : List ℕ) (g : ℕ) → judged b ≡ Ok (table_of b) → length (granules_of b g) ≤ most_degree + 1
   few b g e = omega (arith, granule_length b (table_of b).degree g, (accepted_of b (table_of b) e).bounds.few.degree)
 
   -- two granules 'mean the same': equal exact sums at every tick, and equal coefficients
@@ -290,8 +291,8 @@ other_way_round first second entries number number' =
 -- ---- 'A refusal .. writes nothing and changes nothing kept'
 left : (answer : Compared) (new old : List ℤ) → 0 < compared_number answer → compared_left answer new old ≡ old
 unfolding compared_number
-left (Changes many) new old h = let no : ⊥ = omega arith in absurd no
-left (Refused refusal which) new old h = refl
+left (Ok many) new old h = let no : ⊥ = omega arith in absurd no
+left (Err refused) new old h = refl
 
 pub compare_untouched : (first second : List ℕ) (entries : List ℤ)
     → 0 < compared_number (compared_of first second (length entries)) → compared_into first second entries ≡ entries

@@ -1,5 +1,7 @@
 -- Demand 3: each accepted TT to TDB conversion is 'within 33/64 tick of TT minus the exact
 -- Chebyshev sum', denominators multiplied out. Assumes nothing.
+use Rattle.blocks.specs.Answers.{Judged}
+use Rattle.std.specs.Prelude.{Err, Ok}
 use mathlib.Core.Path.{◌≡◌, refl, ap}
 use mathlib.Core.List.{List, [], ◌∷◌}
 use Prim.Native.Nat.{ℕ, ◌*◌, ◌≤◌}
@@ -9,26 +11,20 @@ use Rattle.scales.specs.declared.path.Edge.TheVariants as Edge
 use Rattle.scales.specs.declared.path.Step.{Step}
 use Rattle.scales.specs.declared.path.Step.TheVariants.{Along}
 use Rattle.scales.specs.declared.scale.Scale.TheVariants.{Tt, Tdb}
-use Rattle.scales.specs.Answers.{answer_number, answer_tick, answer_steps}
+use Rattle.scales.specs.Answers.{answer_number, answer_tick, answer_steps, read_tick}
 use Rattle.scales.specs.Path.{path}
-use Rattle.blocks.specs.declared.answer.Judged.{Judged}
-use Rattle.blocks.specs.declared.answer.Judged.TheVariants.{Accepted, Refused}
 use Rattle.blocks.specs.Judging.{judged}
 use Rattle.blocks.proofs.Accepting.{accepted_table}
 use Rattle.ephemeris.proofs.Promises.{table_distance}
 use Rattle.dates.specs.declared.reading.Reading.{Reading}
-use Rattle.scales.specs.Answers.{read_tick}
 use Rattle.dates.specs.Readings.{read_of}
-use Rattle.scales.specs.declared.answer.Stepped.TheVariants.{Reached}
 use Rattle.scales.proofs.Reached.{nowhere, same_tick}
 use Rattle.opened.specs.Opened.{coefficients_in}
-use Rattle.desk.specs.Conversion.{convert_of}
+use Rattle.desk.specs.Conversion.{convert_of, held_by}
 use Rattle.walk.specs.Walk.{to_tdb}
 use Rattle.walk.proofs.OneStep.{tdb_reached}
 use Rattle.scales.specs.Scales.{named}
-use Rattle.desk.specs.Conversion.{held_by}
-use Rattle.promises.specs.Words.{table_in, denominator_in, exact_sum_in}
-use Rattle.promises.specs.Words.{start_of}
+use Rattle.promises.specs.Words.{table_in, denominator_in, exact_sum_in, start_of}
 use Rattle.promises.proofs.Exactly.{epoch_of}
 use Rattle.promises.proofs.Walks.{one_step, bytes_held}
 use Rattle.promises.proofs.Answers.{walked_from}
@@ -40,10 +36,10 @@ module _ (bytes : List ℕ) (t : ℤ) (u : Epoch) where
   Near = 64 * nat_abs (pos (denominator_in bytes) *ℤ u.tick -ℤ (pos (denominator_in bytes) *ℤ t -ℤ exact_sum_in bytes t)) ≤ 33 * denominator_in bytes
 
   near : (judgement : Judged) → judged bytes ≡ judgement → to_tdb (held_by judgement) (coefficients_in bytes) t
-      ≡ Reached u
+      ≡ Ok u
       → Near
-  near (Refused refusal) j e = nowhere e
-  near (Accepted of) j e =
+  near (Err refusal) j e = nowhere e
+  near (Ok of) j e =
       let cs = coefficients_in bytes in
       let same = accepted_table bytes of j in
       let r = tdb_reached of cs t u e in

@@ -1,6 +1,11 @@
 -- 'each refusal is given exactly when that page says': of conversions and of batches, a number with
 -- its place, and its index, is told exactly where its test is the first of the page's order to
 -- fail; and 0, for accepted, exactly where none does. Assumes nothing.
+use Rattle.entries.specs.Batched.{Batched, refused_at, batched_number, batched_place, batched_index}
+use Rattle.entries.specs.Batched.{batched_steps}
+use Rattle.scales.specs.Answers.{Read, Answer, converted_to, answer_number, answer_place}
+use Rattle.scales.specs.Answers.{answer_scale, answer_tick, answer_steps, read_number, read_place}
+use Rattle.std.specs.Prelude.{Err, Ok}
 use mathlib.Core.Path.{◌≡◌, refl, sym, ◌∙◌, ap}
 use mathlib.Core.List.{List, [], ◌∷◌, ◌++◌}
 use mathlib.Core.Option.{none}
@@ -8,32 +13,25 @@ use Prim.Native.Nat.{ℕ}
 use native.Mathlib.Omega.{arith}
 use lib.Dec.{eqb}
 use lib.IntN.{ℤ}
-use Rattle.numbers.specs.Tests.{Test, only, verdict, ToldExactly}
-use Rattle.numbers.specs.Tests.{verdicts, ToldExactlyOf}
+use Rattle.numbers.specs.Tests.{Test, only, verdict, ToldExactly, verdicts, ToldExactlyOf}
 use Rattle.numbers.proofs.Verdicts.{all_none}
-use Rattle.numbers.proofs.Exactly.{found, unlike, same_told, numbered_both, told_exactly, all_none_of, lists_exactly, Numbered}
-use Rattle.scales.specs.declared.answer.Answer.{Answer}
-use Rattle.scales.specs.declared.answer.Answer.TheVariants.{Converted, Refused}
+use Rattle.numbers.proofs.Exactly.{found, unlike, same_told, numbered_both, told_exactly}
+use Rattle.numbers.proofs.Exactly.{all_none_of, lists_exactly, Numbered}
 use Rattle.scales.specs.declared.answer.Epoch.{Epoch}
 use Rattle.scales.specs.declared.scale.Scale.{Scale}
 use Rattle.scales.specs.declared.scale.Purpose.TheVariants as P
-use Rattle.scales.specs.Answers.{answer_number, answer_place, answer_scale, answer_tick, answer_steps}
 use Rattle.scales.specs.Scales.{named}
-use Rattle.scales.specs.declared.answer.Read.{Read}
-use Rattle.scales.specs.declared.answer.Read.TheVariants as R
 use Rattle.dates.specs.declared.reading.Reading.{Reading}
 use Rattle.dates.specs.declared.reading.Reading.TheVariants.{TwoPart, SinceJ2000, Ticks, Utc}
-use Rattle.scales.specs.Answers.{read_number, read_place}
 use Rattle.dates.specs.Readings.{read_of}
 use Rattle.desk.specs.Conversion.{started, convert_of, convert_into}
-use Rattle.entries.specs.declared.batched.Batched.{Batched}
-use Rattle.entries.specs.declared.batched.Batched.TheVariants as B
-use Rattle.entries.specs.Batched.{batched_number, batched_place, batched_index, batched_steps}
 use Rattle.batch.specs.Batch.{batch_of}
-use Rattle.promises.specs.Tests.{code_tests, crossed_tests, reading_tests, conversion_tests, batch_tests, tests_into}
+use Rattle.promises.specs.Tests.{code_tests, crossed_tests, reading_tests, conversion_tests}
+use Rattle.promises.specs.Tests.{batch_tests, tests_into}
 use Rattle.promises.specs.Words.{Gives}
 use Rattle.promises.proofs.Told.{of_answer, of_batched, reading_told, conversion_told, batch_told}
-use Rattle.promises.proofs.Told.{crossed_numbered, reading_numbered, walk_numbered, entries_numbered}
+use Rattle.promises.proofs.Told.{crossed_numbered, reading_numbered, walk_numbered}
+use Rattle.promises.proofs.Told.{entries_numbered}
 use Rattle.scales.specs.declared.scale.Purpose.{Purpose}
 
 -- ---- of conversions and of batches
@@ -54,8 +52,8 @@ into_exactly writes from to reading leaps bytes =
   where
     both : (answer : Answer)
         → ◌≡◌ {A = ℕ × ℕ} (of_answer (λ n p. (n, p)) (0, 0) answer) (answer_number answer, answer_place answer)
-    both (Converted epoch many) = refl
-    both (Refused refusal) = refl
+    both (Ok converted) = refl
+    both (Err refusal) = refl
 
 -- into ticks
 pub conversion_exactly : (from to : ℕ) (reading : Reading) (leaps : List ℤ) (bytes : List ℕ)
@@ -76,8 +74,8 @@ batch_exactly from to ticks many bytes =
     all : (answer : Batched)
         → ◌≡◌ {A = ℕ × ℕ × ℕ} (of_batched (λ n p i. (n, p, i)) (0, 0, 0) answer)
         (batched_number answer, batched_place answer, batched_index answer)
-    all (B.Converted many) = refl
-    all (B.Refused refusal index) = refl
+    all (Ok many) = refl
+    all (Err refused) = refl
 
 -- ---- of a reading by itself
 pub reading_exactly : (leaps : List ℤ) (reading : Reading)
@@ -91,7 +89,7 @@ reading_exactly leaps reading =
     ∙ both (read_of leaps reading))
   where
     accepts : ℤ → Answer
-    accepts tick = Converted (record { scale = named 0; tick = tick }) 0
+    accepts tick = converted_to (record { scale = named 0; tick = tick }) 0
 
     no_more : (reading : Reading) → reading_tests leaps reading ++ [] ≡ reading_tests leaps reading
     no_more (TwoPart first second) = refl
@@ -101,8 +99,8 @@ reading_exactly leaps reading =
 
     both : (read : Read)
         → ◌≡◌ {A = ℕ × ℕ} (of_answer (λ n p. (n, p)) (0, 0) (started accepts read)) (read_number read, read_place read)
-    both (R.Tick tick) = refl
-    both (R.Refused refusal) = refl
+    both (Ok tick) = refl
+    both (Err refusal) = refl
 
 -- ---- what number 0 means: the conversion is accepted, with its scale, its tick and its steps
 abbrev pub epoch_of : Answer → Epoch
@@ -110,14 +108,14 @@ epoch_of answer = record { scale = answer_scale answer; tick = answer_tick answe
 
 pub converted : (writes : Purpose) (from to : ℕ) (reading : Reading) (leaps : List ℤ) (bytes : List ℕ)
     → let answer = convert_into writes from to reading leaps bytes in
-    answer_number answer ≡ 0 → answer ≡ Converted (epoch_of answer) (answer_steps answer)
+    answer_number answer ≡ 0 → answer ≡ converted_to (epoch_of answer) (answer_steps answer)
 unfolding answer_number answer_scale answer_tick answer_steps
 converted writes from to reading leaps bytes zero = by (convert_into writes from to reading leaps bytes) refl
   where
     by : (answer : Answer) → convert_into writes from to reading leaps bytes ≡ answer
-        → answer ≡ Converted (epoch_of answer) (answer_steps answer)
-    by (Converted epoch many) e = refl
-    by (Refused refusal) e =
+        → answer ≡ converted_to (epoch_of answer) (answer_steps answer)
+    by (Ok converted) e = refl
+    by (Err refusal) e =
         let tests = tests_into writes from to reading leaps bytes in
         let told : none ≡ of_answer found none (convert_into writes from to reading leaps bytes) =
         sym (all_none found none tests ((into_exactly writes from to reading leaps bytes).accepted zero))
@@ -126,21 +124,21 @@ converted writes from to reading leaps bytes zero = by (convert_into writes from
 
 -- and the other way
 pub gives : (answer : Answer) (scale : Scale) (tick : ℤ) (many : ℕ)
-    → answer ≡ Converted (record { scale = scale; tick = tick }) many → Gives answer scale tick many
+    → answer ≡ converted_to (record { scale = scale; tick = tick }) many → Gives answer scale tick many
 unfolding answer_number answer_scale answer_tick answer_steps
 gives answer scale tick many e = rw e (refl, refl, refl, refl)
 
 -- ---- and of a batch
 pub batch_converted : (from to : ℕ) (ticks : List ℤ) (many : ℕ) (bytes : List ℕ)
     → let batched = batch_of from to ticks many bytes in
-    batched_number batched ≡ 0 → batched ≡ B.Converted (batched_steps batched)
+    batched_number batched ≡ 0 → batched ≡ Ok (batched_steps batched)
 unfolding batched_number batched_steps
 batch_converted from to ticks many bytes zero = by (batch_of from to ticks many bytes) refl
   where
     by : (batched : Batched) → batch_of from to ticks many bytes ≡ batched → batched
-        ≡ B.Converted (batched_steps batched)
-    by (B.Converted many) e = refl
-    by (B.Refused refusal index) e =
+        ≡ Ok (batched_steps batched)
+    by (Ok many) e = refl
+    by (Err refused) e =
         let tests = batch_tests from to ticks many bytes in
         let told : none ≡ of_batched (λ n p i. found n p) none (batch_of from to ticks many bytes) =
         sym (all_none_of (λ n p i. found n p) none tests ((batch_exactly from to ticks many bytes).accepted zero))
@@ -165,9 +163,9 @@ empty_exactly from to many bytes = (
 
     both : (batched : Batched)
         → ◌≡◌ {A = ℕ × ℕ} (of_batched (λ n p i. (n, p)) (0, 0) batched) (batched_number batched, batched_place batched)
-    both (B.Converted many) = refl
-    both (B.Refused refusal index) = refl
+    both (Ok many) = refl
+    both (Err refused) = refl
 
     index : (batched : Batched) → of_batched (λ n p i. i) 0 batched ≡ 0 → batched_index batched ≡ 0
-    index (B.Converted many) e = refl
-    index (B.Refused refusal i) e = e
+    index (Ok many) e = refl
+    index (Err refused) e = e

@@ -13,7 +13,8 @@ use Rattle.dates.specs.Readings.{in_range}
 use Rattle.desk.specs.Order.{settled}
 use Rattle.desk.specs.Conversion.{between_of, convert_read}
 use Rattle.walk.specs.Walk.{walk_of}
-use Rattle.line.specs.Numbers.{is_digit, all_digits, value_from, value_of, fits_signed, fitting, digits_number, number_in}
+use Rattle.line.specs.Numbers.{is_digit, all_digits, value_from, value_of, fits_signed, fitting}
+use Rattle.line.specs.Numbers.{digits_number, number_in}
 use Rattle.line.specs.Lines.{fields, line_read}
 use Rattle.printing.specs.Texts.{decimal_within, integer_text, answer_text, refused_text, printed}
 use Rattle.printing.proofs.Decimals.{decimal_within_lem}

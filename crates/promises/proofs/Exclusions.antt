@@ -1,6 +1,8 @@
 -- What the definitions shut out: 'refusing always, the same tick always, a batch that writes
 -- nothing, a batch that converts its first entry and copies the rest, and a step count not equal to
 -- the path's length'. Assumes nothing.
+use Rattle.scales.specs.Answers.{Stepped, converted_to, answer_tick, kept_in}
+use Rattle.std.specs.Prelude.{Ok, Some}
 use mathlib.Core.Path.{◌≡◌, refl, ◌∙◌}
 use mathlib.Core.Bool.{true}
 use mathlib.Core.List.{List, [], ◌∷◌}
@@ -12,24 +14,17 @@ use lib.ListN.{length}
 use lib.Signed.{◌<ℤ◌, lt_z}
 use Rattle.numbers.specs.Rounding.{floor_div, nearest}
 use Rattle.numbers.proofs.Machine.{lt_yes}
-use Rattle.scales.specs.declared.answer.Answer.TheVariants.{Converted}
 use Rattle.scales.specs.declared.path.Step.{Step}
 use Rattle.scales.specs.declared.scale.Purpose.TheVariants as P
 use Rattle.scales.specs.declared.scale.Scale.{Scale}
-use Rattle.scales.specs.Answers.{answer_tick}
 use Rattle.scales.specs.Linear.{exact, nearest_tick}
 use Rattle.scales.specs.Path.{path, steps}
 use Rattle.scales.specs.Tick.{is_valid}
 use Rattle.scales.proofs.Paths.{Leads, leads}
-use Rattle.scales.specs.Answers.{kept_in}
 use Rattle.scales.specs.Rows.{line_step, begin, end}
 use Rattle.scales.proofs.Every.{every_scale, every_step}
 use Rattle.dates.specs.declared.reading.Reading.TheVariants.{Ticks}
 use Rattle.dates.specs.Readings.{in_range}
-use Rattle.scales.specs.declared.answer.Stepped.{Stepped}
-use Rattle.scales.specs.declared.answer.Stepped.TheVariants.{Reached}
-use Rattle.walk.specs.declared.kept.Kept.TheVariants.{Table}
-use Rattle.entries.specs.declared.batched.Batched.TheVariants as Batched
 use Rattle.entries.specs.Batched.{batched_number, batched_steps}
 use Rattle.entries.specs.Entries.{tried_of}
 use Rattle.batch.specs.Batch.{batch_of, batch_into}
@@ -46,10 +41,10 @@ use Rattle.promises.proofs.Known.{known_judged, known_held, over_known}
 
 -- ---- a moment: each step takes it from scale to scale
 abbrev stepped : (Scale → ℤ) → Step → Stepped
-stepped at s = step_of (Table known_table) known_coefficients s (at (begin s))
+stepped at s = step_of (Some known_table) known_coefficients s (at (begin s))
 
 abbrev reached : (Scale → ℤ) → Step → Stepped
-reached at s = Reached (record { scale = end s; tick = at (end s) })
+reached at s = Ok (record { scale = end s; tick = at (end s) })
 
 record Moment (at : Scale → ℤ) : Type 0 where
   valid : (scale : Scale) → is_valid (at scale) ≡ true
@@ -71,8 +66,8 @@ last_moment = record {
 
 module _ (at : Scale → ℤ) (m : Moment at) where
   walks : (p : List Step) (from to : Scale) (done : ℕ) → Leads from to p
-      → walk_of (Table known_table) known_coefficients p done (record { scale = from; tick = at from })
-      ≡ Converted (record { scale = to; tick = at to }) (done + length p)
+      → walk_of (Some known_table) known_coefficients p done (record { scale = from; tick = at from })
+      ≡ converted_to (record { scale = to; tick = at to }) (done + length p)
   unfolding walk_of
   walks [] from to done l = let n : done + 0 ≡ done = omega arith in rw (n, l)
   walks (step ∷ more) from to done l =
@@ -82,7 +77,7 @@ module _ (at : Scale → ℤ) (m : Moment at) where
 
   converts : (from to : ℕ) → from ≤ highest_code P.Reading → to ≤ highest_code P.Reading
       → convert_of from to (Ticks (at (named from))) [] known_bytes
-      ≡ Converted (record { scale = named to; tick = at (named to) }) (steps (named from) (named to))
+      ≡ converted_to (record { scale = named to; tick = at (named to) }) (steps (named from) (named to))
   unfolding between_of in_range
   converts from to f t =
       between_named from to (at (named from)) known_bytes known_table f t known_judged
@@ -118,7 +113,7 @@ unfolding tried_of answer_tick batch_into batched_number batched_steps
 batch_of_two from to f t x y =
     let one = converts first first_moment from to f t in
     let two = converts last last_moment from to f t in
-    let accepted : batch_of from to (first (named from) ∷ last (named from) ∷ []) 2 known_bytes ≡ Batched.Converted (steps (named from) (named to)) =
+    let accepted : batch_of from to (first (named from) ∷ last (named from) ∷ []) 2 known_bytes ≡ Ok (steps (named from) (named to)) =
     batch_tried
     from to known_bytes _ 2 refl (omega arith)
     ∙ rw (one, two) in

@@ -1,5 +1,6 @@
 -- P1 to P13 of 'Known values', in one statement, computed over the definitions that the contracts
 -- cite. Assumes nothing.
+use Rattle.std.specs.Prelude.{Ok}
 use mathlib.Core.Path.{◌≡◌, refl, sym, ◌∙◌, ap}
 use mathlib.Core.List.{[], ◌∷◌}
 use Prim.Native.Nat.{ℕ}
@@ -8,15 +9,14 @@ use lib.IntN.{ℤ, pos, negsuc, ◌+ℤ◌, ◌-ℤ◌, ◌*ℤ◌}
 use Rattle.numbers.specs.Lowest.{lowest}
 use Rattle.numbers.specs.Rounding.{floor_div, nearest}
 use Rattle.numbers.proofs.Differences.{rep, lin}
-use Rattle.scales.specs.declared.answer.Stepped.TheVariants.{Reached}
 use Rattle.scales.specs.declared.scale.Scale.TheVariants.{Tt, Tdb}
-use Rattle.scales.specs.Answers.{kept_in}
+use Rattle.scales.specs.Answers.{kept_in, read_number, read_tick}
 use Rattle.scales.specs.Linear.{exact, nearest_tick}
 use Rattle.scales.specs.Rows.{line_step}
 use Rattle.scales.specs.Tick.{is_valid}
-use Rattle.granule.specs.Rule.{units_in_tick, scale, p_of, u_of, b_from, b_at, v_of, delay_of, value_at, delay_at}
+use Rattle.granule.specs.Rule.{units_in_tick, scale, p_of, u_of, b_from, b_at, v_of, delay_of}
+use Rattle.granule.specs.Rule.{value_at, delay_at}
 use Rattle.granule.specs.Tests.{is_small, weight_from, weight_of, is_light}
-use Rattle.blocks.specs.declared.answer.Judged.TheVariants.{Accepted}
 use Rattle.image.specs.Bounds.{is_bounded}
 use Rattle.blocks.specs.Judging.{judged, write_judged, read_into}
 use Rattle.image.specs.Image.{granule_in}
@@ -26,18 +26,16 @@ use Rattle.blocks.proofs.Taking.{is_new}
 use Rattle.blocks.proofs.RoundTrip.{image_accepted, image_read}
 use Rattle.ephemeris.specs.Accepted as table
 use Rattle.ephemeris.specs.Steps.{tdb_step, tt_step}
-use Rattle.ephemeris.specs.Table.{last_place, tick_at, is_inside, place_of, granule_of, place_in, table_delay, tdb_of, tdb_at, earliest_place, tt_of}
-use Rattle.ephemeris.specs.Table.{is_covered}
+use Rattle.ephemeris.specs.Table.{last_place, tick_at, is_inside, place_of, granule_of, place_in}
+use Rattle.ephemeris.specs.Table.{table_delay, tdb_of, tdb_at, earliest_place, tt_of, is_covered}
 use Rattle.ephemeris.proofs.Search.{earliest_is}
-use Rattle.scales.specs.Answers.{read_number, read_tick}
 use Rattle.dates.specs.Doubles.{numerator, denominator, beyond}
 use Rattle.dates.specs.Readings.{in_range, read_of, read_of_parts}
 use Rattle.dates.specs.Ticks as ticks
 use Rattle.desk.specs.Order.{settled}
 use Rattle.opened.specs.Opened.{coefficients_in}
-use Rattle.desk.specs.Conversion.{between_of, convert_read, convert_into}
+use Rattle.desk.specs.Conversion.{between_of, convert_read, convert_into, held_by}
 use Rattle.walk.specs.Walk.{walk_of}
-use Rattle.desk.specs.Conversion.{held_by}
 use Rattle.promises.specs.Known.{known_table, known_coefficients, known_bytes, AllHold, rows}
 use Rattle.promises.proofs.Exactly.{gives}
 use Rattle.promises.proofs.Walks.{bytes_held}
@@ -55,11 +53,11 @@ constant c place H =
     ap (λ (z : ℤ). nearest (c +ℤ nearest z scale -ℤ pos 0) units_in_tick) (nothing (u_of (p_of place H) H)) ∙ ap (λ (z : ℤ). nearest z units_in_tick) (alone c)
 
 -- ---- the table of P10 and P11: writing accepts it, so its bytes are accepted, and hold it
-written : write_judged known_table known_coefficients 1024 ≡ Accepted known_table
+written : write_judged known_table known_coefficients 1024 ≡ Ok known_table
 unfolding known_table known_coefficients write_judged verdict is_bounded is_valid granule_in is_small is_light weight_of weight_from is_join lowest
 written = refl
 
-pub known_judged : judged known_bytes ≡ Accepted known_table
+pub known_judged : judged known_bytes ≡ Ok known_table
 unfolding known_bytes
 known_judged = image_accepted known_table known_table known_coefficients 1024 written
 
@@ -98,12 +96,12 @@ last_earliest =
 
 -- the step over that table, there and back, from its first tick and from its last
 pub record Over : Type 0 where
-  pub first : tdb_step known_table known_coefficients (pos 0) ≡ Reached (record { scale = Tdb; tick = pos 1 })
+  pub first : tdb_step known_table known_coefficients (pos 0) ≡ Ok (record { scale = Tdb; tick = pos 1 })
   pub last : tdb_step known_table known_coefficients (pos 1000000000)
-      ≡ Reached (record { scale = Tdb; tick = pos 999999999 })
-  pub first_back : tt_step known_table known_coefficients (pos 1) ≡ Reached (record { scale = Tt; tick = pos 0 })
+      ≡ Ok (record { scale = Tdb; tick = pos 999999999 })
+  pub first_back : tt_step known_table known_coefficients (pos 1) ≡ Ok (record { scale = Tt; tick = pos 0 })
   pub last_back : tt_step known_table known_coefficients (pos 999999999)
-      ≡ Reached (record { scale = Tt; tick = pos 1000000000 })
+      ≡ Ok (record { scale = Tt; tick = pos 1000000000 })
 
 pub over_known : Over
 unfolding tdb_step kept_in is_inside is_valid tdb_at tt_step is_covered tt_of known_table tick_at last_place

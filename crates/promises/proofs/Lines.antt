@@ -2,6 +2,12 @@
 -- 0..6 is refusal 1, after 9.' A line that is not understood is 9, whatever its codes are; one that
 -- is understood is 1 where one of its codes is none, the from before the to; any other is the
 -- conversion of its numbers. Assumes nothing.
+use Rattle.line.specs.Answers.{Line, numbers_read, line_number, line_place, line_from, line_to}
+use Rattle.line.specs.Answers.{line_tick}
+use Rattle.blocks.specs.Answers.{Judged}
+use Rattle.scales.specs.Answers.{Answer, converted_to, answer_number, answer_place, answer_tick}
+use Rattle.scales.specs.Answers.{answer_steps}
+use Rattle.std.specs.Prelude.{Err, Ok}
 use borrow.Author.Tests.{le-leb}
 use mathlib.Core.Path.{◌≡◌, refl, sym, ap}
 use mathlib.Core.Bool.{true}
@@ -10,14 +16,9 @@ use Prim.Native.Nat.{ℕ, suc, ◌≤◌, ◌<◌, zero-le}
 use native.Mathlib.Omega.{arith}
 use lib.IntN.{ℤ, pos}
 use lib.ListN.{length, get_or}
-use Rattle.scales.specs.declared.answer.Answer.{Answer}
-use Rattle.scales.specs.declared.answer.Answer.TheVariants as A
 use Rattle.scales.specs.declared.refusal.Refusal.{Refusal}
-use Rattle.scales.specs.declared.scale.Named.TheVariants as N
 use Rattle.scales.specs.declared.scale.Purpose.TheVariants as P
-use Rattle.scales.specs.Answers.{answer_number, answer_place, answer_tick, answer_steps}
 use Rattle.scales.specs.Scales.{highest_code, named, scale_of, lowest_code}
-use Rattle.blocks.specs.declared.answer.Judged.{Judged}
 use Rattle.blocks.specs.Judging.{judged}
 use Rattle.opened.specs.Opened.{coefficients_in}
 use Rattle.dates.specs.declared.reading.Reading.TheVariants.{Ticks}
@@ -27,9 +28,6 @@ use Rattle.desk.specs.Order.{settled}
 use Rattle.desk.specs.Conversion.{convert_of, convert_read, convert_into}
 use Rattle.desk.specs.Inner.{asked_of}
 use Rattle.desk.proofs.Asking.{of_tick, from_refused, to_refused}
-use Rattle.line.specs.declared.reading.Line.{Line}
-use Rattle.line.specs.declared.reading.Line.TheVariants.{Numbers, Refused}
-use Rattle.line.specs.Answers.{line_number, line_place, line_from, line_to, line_tick}
 use Rattle.line.specs.Lines.{code_of, line_read}
 use Rattle.line.specs.Numbers.{fits_signed}
 use Rattle.line.proofs.Codes.{code_inside, refused_outside}
@@ -51,17 +49,17 @@ module _ (text : List ℕ) (line : ℕ) where
   read_refused h = by read refl h
     where
       by : (is : Line) → line_read text line ≡ is → 0 < line_number is → (line_number is ≡ 9) × (line_place is ≡ line)
-      by (Numbers from to tick) e h = let no : ⊥ = omega arith in absurd no
-      by (Refused refusal) e h = rw (numbering.not_understood_lem text line refusal e) (refl, refl)
+      by (Ok numbers) e h = let no : ⊥ = omega arith in absurd no
+      by (Err refusal) e h = rw (numbering.not_understood_lem text line refusal e) (refl, refl)
 
-  understood : line_number read ≡ 0 → read ≡ Numbers (line_from read) (line_to read) (line_tick read)
+  understood : line_number read ≡ 0 → read ≡ numbers_read (line_from read) (line_to read) (line_tick read)
   unfolding line_number line_from line_to line_tick
   understood zero = by read refl zero
     where
       by : (is : Line) → line_read text line ≡ is → line_number is ≡ 0
-          → is ≡ Numbers (line_from is) (line_to is) (line_tick is)
-      by (Numbers from to tick) e z = refl
-      by (Refused refusal) e z =
+          → is ≡ numbers_read (line_from is) (line_to is) (line_tick is)
+      by (Ok numbers) e z = refl
+      by (Err refusal) e z =
           let nine : refusal.number ≡ 9 = rw (numbering.not_understood_lem text line refusal e) in
           let no : ⊥ = omega arith in
           absurd no
@@ -84,7 +82,7 @@ printed_back to tick steps line a b c = rw (line_reads_back to tick steps line a
 
 -- a code and its scale
 code_named : (code place : ℕ) → code ≤ highest_code P.Line
-    → scale_of P.Line (code_of (pos code)) place ≡ N.Scale (named code)
+    → scale_of P.Line (code_of (pos code)) place ≡ Ok (named code)
 code_named code place h =
     rw (code_inside code (omega arith), le-leb (lowest_code P.Line) code zero-le, le-leb code (highest_code P.Line) h)
 
@@ -101,15 +99,15 @@ module _ (table : Judged) (coefficients : List ℤ) (text : List ℕ) (line : �
       by : (is : Line) → line_read text line ≡ is → 0 < line_number is
           → (answer_number (answer_of table coefficients is) ≡ 9)
           × (answer_place (answer_of table coefficients is) ≡ line)
-      by (Numbers from to tick) e h = let no : ⊥ = omega arith in absurd no
-      by (Refused refusal) e h = rw (numbering.not_understood_lem text line refusal e) (refl, refl)
+      by (Ok numbers) e h = let no : ⊥ = omega arith in absurd no
+      by (Err refusal) e h = rw (numbering.not_understood_lem text line refusal e) (refl, refl)
 
-  asked_refused : (from to tick : ℤ) → read text line ≡ Numbers from to tick → (refusal : Refusal)
-      → Q.Refused refusal ≡ asked_of P.Line P.Line (code_of from) (code_of to) true true
-      → answer ≡ A.Refused refusal
+  asked_refused : (from to tick : ℤ) → read text line ≡ numbers_read from to tick → (refusal : Refusal)
+      → Err refusal ≡ asked_of P.Line P.Line (code_of from) (code_of to) true true
+      → answer ≡ Err refusal
   asked_refused from to tick understood refusal is =
       rw understood
-      (sym (of_tick P.Line (code_of from) (code_of to) tick table coefficients (Q.Refused refusal) (in_range tick) (sym is) refl))
+      (sym (of_tick P.Line (code_of from) (code_of to) tick table coefficients (Err refusal) (in_range tick) (sym is) refl))
 
   -- one that is understood is 1 where its from is no code, else where its to is none
   module _ (zero : line_number (read text line) ≡ 0) where
@@ -138,15 +136,15 @@ module _ (table : Judged) (coefficients : List ℤ) (text : List ℕ) (line : �
   line_refused_printed = by (to_of (read text line)) answer
     where
       by : (to : ℤ) (is : Answer) → 0 < answer_number is → line_text to is ≡ refused_line (answer_number is)
-      by to (A.Converted epoch many) h = let no : ⊥ = omega arith in absurd no
-      by to (A.Refused refusal) h = refl
+      by to (Ok converted) h = let no : ⊥ = omega arith in absurd no
+      by to (Err refusal) h = refl
 
 -- ---- over table bytes
 module _ (bytes text : List ℕ) (line : ℕ) where
   abbrev answer_over : Line → Answer
   answer_over is = answer_of (judged bytes) (coefficients_in bytes) is
 
-  as_asked : (from to : ℕ) (tick : ℤ) → read text line ≡ Numbers (pos from) (pos to) tick
+  as_asked : (from to : ℕ) (tick : ℤ) → read text line ≡ numbers_read (pos from) (pos to) tick
       → from ≤ highest_code P.Line → to ≤ highest_code P.Line
       → answer_over (read text line) ≡ convert_of from to (Ticks tick) [] bytes
   unfolding convert_into convert_read settled read_of
@@ -172,8 +170,8 @@ module _ (bytes text : List ℕ) (line : ℕ) where
       by : (is : Line) → line_read text line ≡ is → answer_number (answer_over is) ≡ 0
           → printed_for (judged bytes) (coefficients_in bytes) is
           ≡ answer_line (line_to is) (answer_tick (answer_over is)) (answer_steps (answer_over is))
-      by (Numbers from to tick) e z = ap (line_text to) (converted P.Reading (code_of from) (code_of to) (Ticks tick) [] bytes z)
-      by (Refused refusal) e z =
+      by (Ok numbers) e z = ap (line_text numbers.to) (converted P.Reading (code_of numbers.from) (code_of numbers.to) (Ticks numbers.tick) [] bytes z)
+      by (Err refusal) e z =
           let nine : refusal.number ≡ 9 = rw (numbering.not_understood_lem text line refusal e) in
           let no : ⊥ = omega arith in
           absurd no

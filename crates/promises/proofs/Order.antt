@@ -1,21 +1,20 @@
 -- Demand 3: 'the earlier of two epochs never comes out later', for whole conversions: from any
 -- scale to any other, over any table bytes. By induction over the path, from the law of one step.
 -- Assumes nothing.
+use Rattle.image.specs.declared.table.Table.{Table}
+use Rattle.scales.specs.Answers.{converted_to, answer_number, answer_tick, answer_steps, read_tick}
+use Rattle.std.specs.Prelude.{Option}
 use mathlib.Core.Path.{◌≡◌}
 use mathlib.Core.List.{List, [], ◌∷◌}
 use Prim.Native.Nat.{ℕ, suc}
 use lib.IntN.{ℤ}
 use lib.Signed.{◌≤ℤ◌}
-use Rattle.scales.specs.declared.answer.Answer.TheVariants.{Converted}
 use Rattle.scales.specs.declared.answer.Epoch.{Epoch}
 use Rattle.scales.specs.declared.path.Step.{Step}
-use Rattle.scales.specs.Answers.{answer_number, answer_tick, answer_steps}
 use Rattle.scales.specs.Path.{path}
 use Rattle.dates.specs.declared.reading.Reading.{Reading}
 use Rattle.dates.specs.declared.reading.Reading.TheVariants.{Ticks}
-use Rattle.scales.specs.Answers.{read_tick}
 use Rattle.dates.specs.Readings.{read_of}
-use Rattle.walk.specs.declared.kept.Kept.{Kept}
 use Rattle.opened.specs.Opened.{coefficients_in}
 use Rattle.scales.specs.declared.scale.Purpose.{Purpose}
 use Rattle.desk.specs.Conversion.{convert_into, convert_of}
@@ -24,17 +23,16 @@ use Rattle.walk.specs.Walk.{step_of, walk_of}
 use Rattle.walk.proofs.OneStep.{step_order}
 use Rattle.walk.proofs.Steps.{stepping}
 use Rattle.scales.specs.Scales.{named}
-use Rattle.promises.specs.Words.{table_in}
-use Rattle.promises.specs.Words.{start_of}
+use Rattle.promises.specs.Words.{table_in, start_of}
 use Rattle.promises.proofs.Exactly.{epoch_of}
 use Rattle.promises.proofs.Walks.{came_to, bytes_held}
 use Rattle.promises.proofs.Answers.{walked_from, reading_accepted, ticks_read}
 use Rattle.scales.specs.declared.scale.Purpose.TheVariants as P
 
 -- ---- along a walk
-module _ (kept : Kept) (cs : List ℤ) (h : Held kept cs) (e f : Epoch) (m n : ℕ) where
-  walk_order : (p : List Step) (done : ℕ) (t u : Epoch) → walk_of kept cs p done t ≡ Converted e m
-      → walk_of kept cs p done u ≡ Converted f n → t.tick ≤ℤ u.tick → e.tick ≤ℤ f.tick
+module _ (kept : Option Table) (cs : List ℤ) (h : Held kept cs) (e f : Epoch) (m n : ℕ) where
+  walk_order : (p : List Step) (done : ℕ) (t u : Epoch) → walk_of kept cs p done t ≡ converted_to e m
+      → walk_of kept cs p done u ≡ converted_to f n → t.tick ≤ℤ u.tick → e.tick ≤ℤ f.tick
   unfolding walk_of
   walk_order [] done t u a b l = rw (← came_to e m kept cs done t a, ← came_to f n kept cs done u b) l
   walk_order (step ∷ more) done t u a b l =

@@ -1,5 +1,11 @@
 -- The parts of a conversion by themselves, by number: a code, a written date, and each single step.
 -- Assumes nothing.
+use Rattle.dates.specs.Answers.{Written, written_number, written_place}
+use Rattle.scales.specs.Answers.{Stepped, named_number, named_place, named_scale, kept_in}
+use Rattle.scales.specs.Answers.{stepped_number, stepped_tick, stepped_scale}
+use Rattle.scales.specs.declared.refusal.Refusal.{Refusal}
+use Rattle.scales.specs.declared.answer.Outside.TheVariants as Outside
+use Rattle.std.specs.Prelude.{Err, Ok, Result}
 use mathlib.Core.Path.{◌≡◌, refl, ◌∙◌}
 use mathlib.Core.Bool.{Bool, true, false, cond}
 use mathlib.Core.List.{List, [], ◌∷◌}
@@ -11,11 +17,6 @@ use Rattle.numbers.proofs.Exactly.{numbered, only_told, told_exactly}
 use Rattle.scales.specs.declared.scale.Purpose.{Purpose}
 use Rattle.scales.specs.declared.scale.Scale.{Scale}
 use Rattle.scales.specs.declared.scale.Scale.TheVariants.{Tt, Tdb}
-use Rattle.scales.specs.declared.scale.Named.{Named}
-use Rattle.scales.specs.declared.scale.Named.TheVariants as N
-use Rattle.scales.specs.declared.answer.Stepped.{Stepped}
-use Rattle.scales.specs.declared.answer.Stepped.TheVariants.{Reached, OutsideTable, OutsideRange}
-use Rattle.scales.specs.Answers.{named_number, named_place, named_scale, kept_in, stepped_number, stepped_tick, stepped_scale}
 use Rattle.scales.specs.Linear.{nearest_tick}
 use Rattle.scales.specs.Rows.{LineRow, line_step}
 use Rattle.scales.specs.Scales.{named, is_code, scale_of}
@@ -23,9 +24,6 @@ use Rattle.scales.specs.Tick.{is_valid}
 use Rattle.image.specs.declared.table.Table.{Table}
 use Rattle.ephemeris.specs.Steps.{tdb_step, tt_step}
 use Rattle.ephemeris.specs.Table.{is_inside, is_covered, tdb_of, tt_of}
-use Rattle.dates.specs.Answers.{written_number, written_place}
-use Rattle.dates.specs.declared.writing.Written.{Written}
-use Rattle.dates.specs.declared.writing.Written.TheVariants as W
 use Rattle.dates.specs.Written.{written_of, date_of}
 
 -- ---- a code: refused with 1 and its place exactly where it is none, else its scale
@@ -38,8 +36,8 @@ code_exactly purpose code place =
     told_exactly tests _ _ (numbered tests refl)
     (only_told (λ n p. (n, p)) (0, 0) 1 place [] (is_code purpose code) ∙ by (is_code purpose code))
   where
-    answer : Bool → Named
-    answer is = cond is (N.Scale (named code)) (N.Refused (record { number = 1; place = place }))
+    answer : Bool → Result Scale Refusal
+    answer is = cond is (Ok (named code)) (Err (record { number = 1; place = place }))
 
     by : (is : Bool)
         → ◌≡◌ {A = ℕ × ℕ} (cond is (0, 0) (1, place)) (named_number (answer is), named_place (answer is))
@@ -51,8 +49,8 @@ pub code_scale : (purpose : Purpose) (code place : ℕ) → named_number (scale_
 unfolding named_number named_scale
 code_scale purpose code place = by (is_code purpose code)
   where
-    answer : Bool → Named
-    answer is = cond is (N.Scale (named code)) (N.Refused (record { number = 1; place = place }))
+    answer : Bool → Result Scale Refusal
+    answer is = cond is (Ok (named code)) (Err (record { number = 1; place = place }))
 
     by : (is : Bool) → named_number (answer is) ≡ 0 → named_scale (answer is) ≡ named code
     by true e = refl
@@ -68,7 +66,7 @@ written_exactly tick =
     (only_told (λ n p. (n, p)) (0, 0) 4 0 [] (is_valid tick) ∙ by (is_valid tick))
   where
     answer : Bool → Written
-    answer valid = cond valid (W.Date (date_of tick)) (W.Refused (record { number = 4; place = 0 }))
+    answer valid = cond valid (Ok (date_of tick)) (Err (record { number = 4; place = 0 }))
 
     by : (valid : Bool)
         → ◌≡◌ {A = ℕ × ℕ} (cond valid (0, 0) (4, 0)) (written_number (answer valid), written_place (answer valid))
@@ -81,7 +79,7 @@ unfolding kept_in stepped_number
 kept_number scale tick = by (is_valid tick)
   where
     by : (valid : Bool)
-        → stepped_number (cond valid (Reached (record { scale = scale; tick = tick })) OutsideRange) ≡ cond valid 0 4
+        → stepped_number (cond valid (Ok (record { scale = scale; tick = tick })) (Err Outside.Range)) ≡ cond valid 0 4
     by true = refl
     by false = refl
 
@@ -91,7 +89,7 @@ unfolding kept_in stepped_number stepped_tick stepped_scale
 kept_tick scale tick = by (is_valid tick)
   where
     kept : Bool → Stepped
-    kept valid = cond valid (Reached (record { scale = scale; tick = tick })) OutsideRange
+    kept valid = cond valid (Ok (record { scale = scale; tick = tick })) (Err Outside.Range)
 
     by : (valid : Bool) → stepped_number (kept valid) ≡ 0
         → (stepped_tick (kept valid) ≡ tick) × (stepped_scale (kept valid) ≡ scale)
@@ -104,7 +102,7 @@ pub line_number : (row : LineRow) (t : ℤ)
 unfolding line_step stepped_number
 line_number row t = by (is_valid t)
   where
-    by : (valid : Bool) → stepped_number (cond valid (kept_in row.to (nearest_tick row.by t)) OutsideRange)
+    by : (valid : Bool) → stepped_number (cond valid (kept_in row.to (nearest_tick row.by t)) (Err Outside.Range))
         ≡ cond valid (cond (is_valid (nearest_tick row.by t)) 0 4) 4
     by true = kept_number row.to (nearest_tick row.by t)
     by false = refl
@@ -115,7 +113,7 @@ unfolding line_step stepped_number
 line_answer row t = by (is_valid t)
   where
     taken : Bool → Stepped
-    taken valid = cond valid (kept_in row.to (nearest_tick row.by t)) OutsideRange
+    taken valid = cond valid (kept_in row.to (nearest_tick row.by t)) (Err Outside.Range)
 
     by : (valid : Bool) → stepped_number (taken valid) ≡ 0
         → (stepped_tick (taken valid) ≡ nearest_tick row.by t) × (stepped_scale (taken valid) ≡ row.to)
@@ -128,7 +126,7 @@ pub tdb_number : (T : Table) (cs : List ℤ) (t : ℤ)
 unfolding tdb_step stepped_number
 tdb_number T cs t = by (is_inside T t)
   where
-    by : (inside : Bool) → stepped_number (cond inside (kept_in Tdb (tdb_of T cs t)) OutsideTable)
+    by : (inside : Bool) → stepped_number (cond inside (kept_in Tdb (tdb_of T cs t)) (Err Outside.Table))
         ≡ cond inside (cond (is_valid (tdb_of T cs t)) 0 4) 6
     by true = kept_number Tdb (tdb_of T cs t)
     by false = refl
@@ -139,7 +137,7 @@ unfolding tdb_step stepped_number
 tdb_answer T cs t = by (is_inside T t)
   where
     taken : Bool → Stepped
-    taken inside = cond inside (kept_in Tdb (tdb_of T cs t)) OutsideTable
+    taken inside = cond inside (kept_in Tdb (tdb_of T cs t)) (Err Outside.Table)
 
     by : (inside : Bool) → stepped_number (taken inside) ≡ 0
         → (stepped_tick (taken inside) ≡ tdb_of T cs t) × (stepped_scale (taken inside) ≡ Tdb)
@@ -152,7 +150,7 @@ unfolding tt_step stepped_number
 tt_number T cs t = by (is_covered T cs t)
   where
     by : (covered : Bool)
-        → stepped_number (cond covered (Reached (record { scale = Tt; tick = tt_of T cs t })) OutsideTable)
+        → stepped_number (cond covered (Ok (record { scale = Tt; tick = tt_of T cs t })) (Err Outside.Table))
         ≡ cond covered 0 6
     by true = refl
     by false = refl
@@ -163,7 +161,7 @@ unfolding tt_step stepped_number stepped_tick stepped_scale
 tt_answer T cs t = by (is_covered T cs t)
   where
     taken : Bool → Stepped
-    taken covered = cond covered (Reached (record { scale = Tt; tick = tt_of T cs t })) OutsideTable
+    taken covered = cond covered (Ok (record { scale = Tt; tick = tt_of T cs t })) (Err Outside.Table)
 
     by : (covered : Bool) → stepped_number (taken covered) ≡ 0
         → (stepped_tick (taken covered) ≡ tt_of T cs t) × (stepped_scale (taken covered) ≡ Tt)

@@ -1,4 +1,6 @@
 -- What a reading can be read as: a valid tick, or 2, 3, 5 or 4 with its place. Assumes nothing.
+use Rattle.scales.specs.Answers.{Read}
+use Rattle.std.specs.Prelude.{Err, Ok}
 use mathlib.Core.Path.{◌≡◌, refl, sym, subst}
 use mathlib.Core.Bool.{Bool, true, false, cond, not}
 use mathlib.Core.List.{List}
@@ -8,12 +10,11 @@ use lib.IntN.{ℤ}
 use Rattle.scales.specs.declared.refusal.Refusal.{Refusal}
 use Rattle.scales.specs.Tick.{is_valid}
 use Rattle.desk.proofs.Valid.{unread}
-use Rattle.scales.specs.declared.answer.Read.{Read}
-use Rattle.scales.specs.declared.answer.Read.TheVariants as R
 use Rattle.dates.specs.declared.reading.Reading.{Reading}
 use Rattle.dates.specs.declared.reading.Reading.TheVariants.{TwoPart, SinceJ2000, Ticks, Utc}
 use Rattle.dates.specs.Doubles.{beyond}
-use Rattle.dates.specs.Readings.{most_days, most_seconds, refused_with, refused_if, in_range, read_of, read_of_parts, read_of_seconds}
+use Rattle.dates.specs.Readings.{most_days, most_seconds, refused_with, refused_if, in_range}
+use Rattle.dates.specs.Readings.{read_of, read_of_parts, read_of_seconds}
 use Rattle.utc.specs.Days.{is_reading, tai_of}
 use Rattle.utc.specs.Readings.{utc_read}
 use Rattle.dates.specs.Ticks.{tick_of_date, tick_of_seconds}
@@ -25,12 +26,12 @@ module _ (Q : Read → Type 0) where
   either true number place otherwise q rest = q
   either false number place otherwise q rest = rest
 
-  module _ (q4 : Q (refused_with 4 0)) (q : (tick : ℤ) → is_valid tick ≡ true → Q (R.Tick tick)) where
+  module _ (q4 : Q (refused_with 4 0)) (q : (tick : ℤ) → is_valid tick ≡ true → Q (Ok tick)) where
     in_range_lem : (tick : ℤ) → Q (in_range tick)
     unfolding in_range
     in_range_lem tick = by (is_valid tick) refl
       where
-        by : (valid : Bool) → is_valid tick ≡ valid → Q (refused_if (not valid) 4 0 (R.Tick tick))
+        by : (valid : Bool) → is_valid tick ≡ valid → Q (refused_if (not valid) 4 0 (Ok tick))
         by true v = q tick v
         by false v = q4
 
@@ -56,7 +57,7 @@ module _ (Q : Read → Type 0) where
         tai = tai_of leaps day ticks
 
         by : (right valid : Bool) → is_valid tai ≡ valid
-            → Q (cond right (cond valid (R.Tick tai) (refused_with 4 0)) (refused_with 5 0))
+            → Q (cond right (cond valid (Ok tai) (refused_with 4 0)) (refused_with 5 0))
         by false valid v = q50
         by true false v = q4
         by true true v = q tai v
@@ -66,12 +67,12 @@ module _ (P : Refusal → Type 0) where
   abbrev Told : ℕ → ℕ → Type 0
   Told number place = P (record { number = number; place = place })
 
-  told : (number place : ℕ) → Told number place → (r : Refusal) → refused_with number place ≡ R.Refused r → P r
+  told : (number place : ℕ) → Told number place → (r : Refusal) → refused_with number place ≡ Err r → P r
   told number place p r e = let same : record { number = number; place = place } ≡ r = cc in subst P same p
 
   pub reading_refusal : (leaps : List ℤ) (reading : Reading) → Told 2 0 → Told 2 1 → Told 3 0 → Told 3 1 → Told 5 0
       → Told 4 0
-      → (r : Refusal) → read_of leaps reading ≡ R.Refused r → P r
+      → (r : Refusal) → read_of leaps reading ≡ Err r → P r
   reading_refusal leaps reading p20 p21 p30 p31 p50 p4 =
-      reading_cases (λ read. (r : Refusal) → read ≡ R.Refused r → P r) (told 4 0 p4) (λ tick v r e. unread (sym e)) (told 2 0 p20) (told 2 1 p21) (told 3 0 p30)
+      reading_cases (λ read. (r : Refusal) → read ≡ Err r → P r) (told 4 0 p4) (λ tick v r e. unread (sym e)) (told 2 0 p20) (told 2 1 p21) (told 3 0 p30)
       (told 3 1 p31) (told 5 0 p50) leaps reading

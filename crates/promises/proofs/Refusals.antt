@@ -1,5 +1,9 @@
 -- Each conversion is answered or refused, never both; a refusal tells one of the page's numbers
 -- with its place, and carries no tick. Assumes nothing.
+use Rattle.scales.specs.Answers.{Answer, converted_to, answer_number, answer_place, answer_tick}
+use Rattle.scales.specs.Answers.{answer_steps, stepped_number, read_number, read_tick}
+use Rattle.scales.specs.declared.answer.Outside.TheVariants as Outside
+use Rattle.std.specs.Prelude.{Err, Ok, Option}
 use mathlib.Core.Path.{◌≡◌, refl, sym, ◌∙◌, ap}
 use mathlib.Core.Logic.{◌⊎◌, inl, inr}
 use mathlib.Core.Bool.{Bool, true, false, cond, not, ◌&&◌}
@@ -11,41 +15,33 @@ use lib.Dec.{ltb, leb, lit≤}
 use lib.IntN.{ℤ, pos}
 use lib.ListN.{length}
 use Rattle.numbers.proofs.Flags.{never, both, or_right}
-use Rattle.scales.specs.declared.answer.Answer.{Answer}
-use Rattle.scales.specs.declared.answer.Answer.TheVariants.{Converted, Refused}
 use Rattle.scales.specs.declared.answer.Epoch.{Epoch}
 use Rattle.scales.specs.declared.refusal.Refusal.{Refusal}
 use Rattle.scales.specs.declared.path.Step.{Step}
 use Rattle.scales.specs.declared.scale.Scale.{Scale}
-use Rattle.scales.specs.Answers.{answer_number, answer_place, answer_tick, answer_steps, stepped_number}
 use Rattle.scales.specs.Path.{path, any_over_table, crosses}
 use Rattle.scales.specs.Rows.{over_table}
 use Rattle.scales.proofs.Every.{every_two}
 use Rattle.image.specs.declared.table.Table.{Table}
 use Rattle.image.specs.Image.{table_of}
-use Rattle.blocks.specs.declared.answer.Judged.TheVariants as J
 use Rattle.blocks.specs.Answers as blocks
 use Rattle.numbers.specs.Tests.{Test, fails_at, verdict}
 use Rattle.blocks.specs.Judging.{judged_by, table_tests, judged}
-use Rattle.scales.specs.declared.answer.Read.TheVariants as R
 use Rattle.dates.specs.declared.reading.Reading.{Reading}
-use Rattle.scales.specs.Answers.{read_number, read_tick}
 use Rattle.dates.specs.Readings.{read_of}
-use Rattle.scales.specs.declared.answer.Stepped.TheVariants.{OutsideTable}
-use Rattle.walk.specs.declared.kept.Kept.{Kept}
 use Rattle.desk.specs.Order.{settled}
 use Rattle.opened.specs.Opened.{coefficients_in}
 use Rattle.desk.specs.Conversion.{convert_of, convert_read, convert_into}
 use Rattle.desk.proofs.Asking.{between_unseen}
 use Rattle.walk.proofs.Steps.{steps_are}
 use Rattle.scales.specs.Scales.{named}
-use Rattle.promises.specs.Words.{table_in}
-use Rattle.promises.specs.Words.{start_of}
+use Rattle.promises.specs.Words.{table_in, start_of}
 use Rattle.promises.specs.Reasons.{StoppedAfter, steps_to_table, over_once, told_numbers, is_among}
 use Rattle.promises.proofs.Readings.{reading_refusal}
 use Rattle.promises.proofs.Steps.{step_outside}
 use Rattle.promises.proofs.Reasons.{Stopped, EndedBetween, outside_table, outside_range, because}
-use Rattle.promises.proofs.Reasons.{Because, by_from, by_to, by_length, by_list, by_table, by_reading, by_walk}
+use Rattle.promises.proofs.Reasons.{Because, by_from, by_to, by_length, by_list, by_table}
+use Rattle.promises.proofs.Reasons.{by_reading, by_walk}
 use Rattle.scales.specs.declared.scale.Purpose.TheVariants as P
 
 -- ---- which numbers are told: what holds of each of them holds of the one that is told
@@ -55,7 +51,7 @@ module _ (p : ℕ → Bool) where
   all_numbers [] = true
   all_numbers (x ∷ xs) = p x.number && all_numbers xs
 
-  tests_number : (xs : List Test) (t : Table) (r : Refusal) → all_numbers xs ≡ true → judged_by xs t ≡ J.Refused r
+  tests_number : (xs : List Test) (t : Table) (r : Refusal) → all_numbers xs ≡ true → judged_by xs t ≡ Err r
       → p r.number ≡ true
   unfolding verdict blocks.judged_number
   tests_number [] t r a e = let z : ◌≡◌ {A = ℕ} 0 1 = cc in let no : ⊥ = omega arith in absurd no
@@ -63,19 +59,19 @@ module _ (p : ℕ → Bool) where
       let d = both (p x.number) (all_numbers xs) a in
       by d.0 (tests_number xs t r d.1) (ltb (fails_at x) x.places) e
     where
-      by : p x.number ≡ true → (judged_by xs t ≡ J.Refused r → p r.number ≡ true) → (fails : Bool)
-          → cond fails (blocks.judged_refused x.number (fails_at x)) (judged_by xs t) ≡ J.Refused r
+      by : p x.number ≡ true → (judged_by xs t ≡ Err r → p r.number ≡ true) → (fails : Bool)
+          → cond fails (blocks.judged_refused x.number (fails_at x)) (judged_by xs t) ≡ Err r
           → p r.number ≡ true
       by first rest true e = sym (ap (λ (n : ℕ). p n) (ap blocks.judged_number e)) ∙ first
       by first rest false e = rest e
 
   table_number : (bytes : List ℕ) (r : Refusal) → all_numbers (table_tests bytes (table_of bytes)) ≡ true
-      → judged bytes ≡ J.Refused r → p r.number ≡ true
+      → judged bytes ≡ Err r → p r.number ≡ true
   unfolding judged
   table_number bytes r a e = tests_number _ _ r a e
 
 -- a table's are above all others
-table_above : (bytes : List ℕ) (r : Refusal) → judged bytes ≡ J.Refused r → 10 ≤ r.number
+table_above : (bytes : List ℕ) (r : Refusal) → judged bytes ≡ Err r → 10 ≤ r.number
 table_above bytes r e = leb-true 10 r.number (table_number (leb 10) bytes r refl e)
 
 -- ---- where 6 is told
@@ -101,8 +97,8 @@ so_many_before (step ∷ before) last after e o = by (so_many_before before last
     by rest true o = never (rw (any_over before last after e) at o)
     by rest false o = ap suc (rest o)
 
-stopped_over : (kept : Kept) (cs : List ℤ) (p : List Step) (start : Epoch) (done : ℕ) → over_once p ≡ true
-    → Stopped kept cs p 0 start done OutsideTable → done ≡ steps_to_table p
+stopped_over : (kept : Option Table) (cs : List ℤ) (p : List Step) (start : Epoch) (done : ℕ) → over_once p ≡ true
+    → Stopped kept cs p 0 start done (Err Outside.Table) → done ≡ steps_to_table p
 stopped_over kept cs p start done o s =
     let many = steps_are kept cs s.before 0 start s.walked in
     let so = so_many_before s.before s.last s.after (step_outside kept cs s.epoch.tick s.last s.stopped) (rw s.split at o) in
@@ -110,7 +106,7 @@ stopped_over kept cs p start done o s =
 
 -- ---- the refusal of a conversion, of any codes and reading over any table bytes
 module _ (from to : ℕ) (reading : Reading) (leaps : List ℤ) (bytes : List ℕ) (r : Refusal)
-    (refused : convert_of from to reading leaps bytes ≡ Refused r) where
+    (refused : convert_of from to reading leaps bytes ≡ Err r) where
   number_told : is_among told_numbers r.number ≡ true
   number_told = by (because P.Reading from to reading leaps bytes r refused)
     where
@@ -163,7 +159,7 @@ module _ (from to : ℕ) (reading : Reading) (leaps : List ℤ) (bytes : List �
   unfolding read_number read_tick answer_number answer_tick answer_steps stepped_number
   four_told four = by (because P.Reading from to reading leaps bytes r refused)
     where
-      ended : (tick : ℤ) → read_of leaps reading ≡ R.Tick tick → EndedBetween from to bytes tick r → OutsideAfter
+      ended : (tick : ℤ) → read_of leaps reading ≡ Ok tick → EndedBetween from to bytes tick r → OutsideAfter
       ended tick q (outside_table n s) = let no : ⊥ = omega arith in absurd no
       ended tick q (outside_range done n p s) =
           rw q (
@@ -200,14 +196,14 @@ module _ (from to : ℕ) (reading : Reading) (leaps : List ℤ) (bytes : List �
   abbrev answer : Answer
   answer = convert_of from to reading leaps bytes
 
-  is_refused : answer ≡ Refused (record { number = answer_number answer; place = answer_place answer })
+  is_refused : answer ≡ Err (record { number = answer_number answer; place = answer_place answer })
   unfolding answer_number answer_place
   is_refused = by answer refused
     where
       by : (answer : Answer) → 0 < answer_number answer
-          → answer ≡ Refused (record { number = answer_number answer; place = answer_place answer })
-      by (Converted epoch steps) h = let no : ⊥ = omega arith in absurd no
-      by (Refused refusal) h = refl
+          → answer ≡ Err (record { number = answer_number answer; place = answer_place answer })
+      by (Ok converted) h = let no : ⊥ = omega arith in absurd no
+      by (Err refusal) h = refl
 
   -- 'A refusal carries no tick', and no steps
   pub carries_nothing : (answer_tick answer ≡ pos 0) × (answer_steps answer ≡ 0)

@@ -1,5 +1,7 @@
 -- The way back over a step that was taken from a valid tick: over a line it is always taken, over
 -- the table from TDB always, and from TT unless the TDB there is past the range. Assumes nothing.
+use Rattle.image.specs.declared.table.Table.{Table}
+use Rattle.std.specs.Prelude.{None, Ok, Option, Some}
 use mathlib.Core.Path.{◌≡◌, refl, ◌∙◌}
 use mathlib.Core.Bool.{Bool, true, cond}
 use mathlib.Core.Logic.{◌⊎◌, inl, inr, ⊎_elim}
@@ -14,7 +16,6 @@ use Rattle.numbers.proofs.Differences.{rep₂, sizes}
 use Rattle.numbers.proofs.Machine.{is_true, size_test}
 use Rattle.numbers.specs.Rounding.{floor_div, nearest}
 use Rattle.scales.specs.declared.answer.Epoch.{Epoch}
-use Rattle.scales.specs.declared.answer.Stepped.TheVariants.{Reached}
 use Rattle.scales.specs.declared.path.Line.{Line}
 use Rattle.scales.specs.declared.path.Edge.TheVariants as Edge
 use Rattle.scales.specs.declared.path.Step.{Step}
@@ -25,11 +26,10 @@ use Rattle.scales.specs.Tick.{furthest, is_valid}
 use Rattle.scales.proofs.Every.{every_line, each_step}
 use Rattle.scales.proofs.Range.{valid_size}
 use Rattle.scales.proofs.Reached.{nowhere, same_tick}
-use Rattle.linear.proofs.Promises.{proper, proper_inverse, nearest_back, took, line_taken, turned_twice}
+use Rattle.linear.proofs.Promises.{proper, proper_inverse, nearest_back, took, line_taken}
+use Rattle.linear.proofs.Promises.{turned_twice}
 use Rattle.ephemeris.specs.Table.{tdb_of, tt_of}
 use Rattle.ephemeris.proofs.Promises.{earliest_of, back_and_there, tdb_covered}
-use Rattle.walk.specs.declared.kept.Kept.{Kept}
-use Rattle.walk.specs.declared.kept.Kept.TheVariants as K
 use Rattle.walk.specs.Inner.{Held}
 use Rattle.walk.specs.Walk.{to_tdb, to_tt, step_of}
 use Rattle.walk.proofs.OneStep.{Comes, tdb_reached, tt_reached, tdb_comes, tt_comes}
@@ -78,7 +78,7 @@ returns_by s t near from to at_end =
     (λ (h : nat_abs t < furthest). size_valid back (one_off back t near h))
     (eq-or-lt_of_le (valid_size t from))
 
-line_returns : (line : Line) (t : ℤ) (u : Epoch) → line_step (line_row line) t ≡ Reached u
+line_returns : (line : Line) (t : ℤ) (u : Epoch) → line_step (line_row line) t ≡ Ok u
     → Comes (line_step (turned (line_row line)) u.tick)
 line_returns line t u e =
     let row = line_row line in
@@ -86,7 +86,7 @@ line_returns line t u e =
     let back = returns_by row.by t (nearest_back row.by (proper line) t) a.from a.to (λ end. (ends_return t end line).0) in
     rw (← same_tick a.is) (_, line_taken (turned row) (nearest_tick row.by t) a.to back)
 
-line_returns_back : (line : Line) (t : ℤ) (u : Epoch) → line_step (turned (line_row line)) t ≡ Reached u
+line_returns_back : (line : Line) (t : ℤ) (u : Epoch) → line_step (turned (line_row line)) t ≡ Ok u
     → Comes (line_step (line_row line) u.tick)
 line_returns_back line t u e =
     let row = turned (line_row line) in
@@ -97,10 +97,10 @@ line_returns_back line t u e =
 
 -- ---- over whatever is kept
 module _ (cs : List ℤ) where
-  tdb_returns : (kept : Kept) → Held kept cs → (t : ℤ) (u : Epoch) → to_tdb kept cs t ≡ Reached u
+  tdb_returns : (kept : Option Table) → Held kept cs → (t : ℤ) (u : Epoch) → to_tdb kept cs t ≡ Ok u
       → Comes (to_tt kept cs u.tick)
-  tdb_returns K.Nothing h t u e = nowhere e
-  tdb_returns (K.Table T) h t u e =
+  tdb_returns None h t u e = nowhere e
+  tdb_returns (Some T) h t u e =
       let a = tdb_reached T cs t u e in
       rw (← same_tick a.is) (tt_comes T cs (tdb_of T cs t) (tdb_covered T cs (h.accepted T refl) t a.inside))
 
@@ -108,10 +108,10 @@ module _ (cs : List ℤ) where
       → nat_abs v ≤ furthest
   after_asked = rep₂ _ (λ a b c d. simp sizes (omega arith))
 
-  tt_returns : (kept : Kept) → Held kept cs → (t : ℤ) (u : Epoch) → is_valid t ≡ true → is_valid (t +ℤ pos 1) ≡ true
-      → to_tt kept cs t ≡ Reached u → Comes (to_tdb kept cs u.tick)
-  tt_returns K.Nothing h t u v w e = nowhere e
-  tt_returns (K.Table T) h t u v w e =
+  tt_returns : (kept : Option Table) → Held kept cs → (t : ℤ) (u : Epoch) → is_valid t ≡ true → is_valid (t +ℤ pos 1) ≡ true
+      → to_tt kept cs t ≡ Ok u → Comes (to_tdb kept cs u.tick)
+  tt_returns None h t u v w e = nowhere e
+  tt_returns (Some T) h t u v w e =
       let a = tt_reached T cs t u e in
       let A = h.accepted T refl in
       let b = back_and_there T cs A t a.covered in
@@ -120,8 +120,8 @@ module _ (cs : List ℤ) where
       rw (← same_tick a.is) (tdb_comes T cs (tt_of T cs t) (earliest_of T cs t a.covered).inside valid)
 
 -- ---- each step
-pub step_returns : (kept : Kept) (cs : List ℤ) → Held kept cs → (t : ℤ) (u : Epoch) → is_valid t ≡ true → (step : Step)
-    → (step ≡ Back Edge.Table → is_valid (t +ℤ pos 1) ≡ true) → step_of kept cs step t ≡ Reached u
+pub step_returns : (kept : Option Table) (cs : List ℤ) → Held kept cs → (t : ℤ) (u : Epoch) → is_valid t ≡ true → (step : Step)
+    → (step ≡ Back Edge.Table → is_valid (t +ℤ pos 1) ≡ true) → step_of kept cs step t ≡ Ok u
     → Comes (step_of kept cs (opposite step) u.tick)
 step_returns kept cs h t u v = each_step _
     (λ line _ e. line_returns line t u e)

@@ -1,14 +1,13 @@
 -- 'The same date split two ways', for whole conversions: two splits of one exact sum are converted
 -- alike, and of two dates the one with the smaller exact sum never comes out later. Assumes
 -- nothing.
+use Rattle.scales.specs.Answers.{Read, answer_number, answer_tick}
 use mathlib.Core.Path.{◌≡◌, refl, ap}
 use mathlib.Core.List.{List}
 use Prim.Native.Nat.{ℕ}
 use lib.Ieee.{Float}
 use lib.IntN.{ℤ}
 use lib.Signed.{◌≤ℤ◌}
-use Rattle.scales.specs.Answers.{answer_number, answer_tick}
-use Rattle.scales.specs.declared.answer.Read.{Read}
 use Rattle.scales.specs.declared.scale.Purpose.{Purpose}
 use Rattle.scales.specs.declared.scale.Purpose.TheVariants as P
 use Rattle.dates.specs.declared.reading.Reading.TheVariants.{TwoPart}

@@ -1,6 +1,9 @@
 -- A table's bytes, judged, read and written, by number: what is written is accepted and reads back,
 -- an accepted image written again gives the same bytes, and a refusal writes nothing and changes
 -- nothing kept. Assumes nothing.
+use Rattle.blocks.specs.Answers.{Judged, judged_refused, judged_number, judged_start, judged_length}
+use Rattle.blocks.specs.Answers.{judged_count, judged_degree}
+use Rattle.std.specs.Prelude.{Err, Ok}
 use mathlib.Core.Path.{◌≡◌, refl}
 use mathlib.Core.List.{List}
 use Prim.Native.Nat.{ℕ, ◌<◌}
@@ -10,26 +13,24 @@ use lib.ListN.{length, get_or}
 use Rattle.numbers.proofs.Verdicts.{all_none}
 use Rattle.image.specs.declared.table.Table.{Table}
 use Rattle.image.specs.Image.{table_of, image_of}
-use Rattle.blocks.specs.declared.answer.Judged.{Judged}
-use Rattle.blocks.specs.declared.answer.Judged.TheVariants.{Accepted, Refused}
-use Rattle.blocks.specs.Answers.{judged_refused, judged_number, judged_start, judged_length, judged_count, judged_degree}
-use Rattle.blocks.specs.Judging.{judged, judged_left, table_tests, read_judged, read_into, write_tests, write_judged, write_into}
+use Rattle.blocks.specs.Judging.{judged, judged_left, table_tests, read_judged, read_into}
+use Rattle.blocks.specs.Judging.{write_tests, write_judged, write_into}
 use Rattle.blocks.proofs.Exactly.{judged_exactly, write_exactly}
 use Rattle.blocks.proofs.RoundTrip as trip
 use Rattle.opened.specs.Opened.{coefficients_in}
 use Rattle.promises.specs.Words.{Tells}
 
 -- ---- what number 0 means: the table is accepted, with its own numbers
-pub judged_is : (b : List ℕ) → judged_number (judged b) ≡ 0 → judged b ≡ Accepted (table_of b)
+pub judged_is : (b : List ℕ) → judged_number (judged b) ≡ 0 → judged b ≡ Ok (table_of b)
 unfolding judged
-judged_is b zero = all_none judged_refused (Accepted (table_of b)) (table_tests b (table_of b)) ((judged_exactly b).accepted zero)
+judged_is b zero = all_none judged_refused (Ok (table_of b)) (table_tests b (table_of b)) ((judged_exactly b).accepted zero)
 
 written_is : (t : Table) (c : List ℤ) (many : ℕ) → judged_number (write_judged t c many) ≡ 0
-    → write_judged t c many ≡ Accepted t
+    → write_judged t c many ≡ Ok t
 unfolding write_judged
-written_is t c many zero = all_none judged_refused (Accepted t) (write_tests t c many) ((write_exactly t c many).accepted zero)
+written_is t c many zero = all_none judged_refused (Ok t) (write_tests t c many) ((write_exactly t c many).accepted zero)
 
-tells : {judgement : Judged} {t : Table} → judgement ≡ Accepted t → Tells judgement t
+tells : {judgement : Judged} {t : Table} → judgement ≡ Ok t → Tells judgement t
 unfolding judged_number judged_start judged_length judged_count judged_degree
 tells e = rw e (refl, refl, refl, refl, refl)
 
@@ -56,8 +57,8 @@ again_written b small accepted image long =
 left : {A : Type 0} (judgement : Judged) (new old : List A) → 0 < judged_number judgement
     → judged_left judgement new old ≡ old
 unfolding judged_number
-left (Accepted t) new old h = let no : ⊥ = omega arith in absurd no
-left (Refused refusal) new old h = refl
+left (Ok t) new old h = let no : ⊥ = omega arith in absurd no
+left (Err refusal) new old h = refl
 
 pub read_untouched : (b : List ℕ) (d : List ℤ) → 0 < judged_number (read_judged b (length d)) → read_into b d ≡ d
 unfolding read_into

@@ -1,5 +1,10 @@
 -- Demand 3: 'there and back over one step lands within one tick', for conversions over any step:
 -- the law of each is `step_back` of `Steps`. Assumes nothing.
+use Rattle.blocks.specs.Answers.{Judged}
+use Rattle.scales.specs.Answers.{Stepped, Answer, converted_to, answer_number, answer_tick}
+use Rattle.scales.specs.Answers.{answer_steps, stepped_number, read_tick}
+use Rattle.scales.specs.declared.answer.Outside.TheVariants as Outside
+use Rattle.std.specs.Prelude.{Err, Ok}
 use mathlib.Core.Path.{◌≡◌, refl, sym, subst, ◌∙◌, ap}
 use mathlib.Core.Bool.{Bool, true, cond, not}
 use mathlib.Core.List.{List, [], ◌∷◌, ◌++◌}
@@ -11,16 +16,11 @@ use lib.ListN.{length}
 use Rattle.numbers.specs.Tests.{fails_at, only, verdict, AllPass}
 use Rattle.numbers.proofs.Verdicts.{pass_both, pass_join, more_passed}
 use Rattle.numbers.proofs.Exactly.{only_told, only_passes, passes_only}
-use Rattle.scales.specs.declared.answer.Answer.{Answer}
-use Rattle.scales.specs.declared.answer.Answer.TheVariants.{Converted, Refused}
-use Rattle.scales.specs.declared.answer.Stepped.{Stepped}
-use Rattle.scales.specs.declared.answer.Stepped.TheVariants.{Reached, OutsideTable, OutsideRange}
 use Rattle.scales.specs.declared.path.Edge.TheVariants as Edge
 use Rattle.scales.specs.declared.path.Step.TheVariants.{Along, Back}
 use Rattle.scales.specs.declared.path.Step.{Step}
 use Rattle.scales.specs.declared.scale.Scale.{Scale}
 use Rattle.scales.specs.declared.scale.Scale.TheVariants.{Tt, Tdb}
-use Rattle.scales.specs.Answers.{answer_number, answer_tick, answer_steps, stepped_number}
 use Rattle.scales.specs.Path.{path, steps, crosses}
 use Rattle.scales.specs.Rows.{begin, end, opposite}
 use Rattle.scales.specs.Tick.{is_valid}
@@ -28,31 +28,28 @@ use Rattle.scales.proofs.Every.{every_two}
 use Rattle.scales.proofs.Paths.{Leads, leads, opposite_path}
 use Rattle.dates.specs.declared.reading.Reading.{Reading}
 use Rattle.dates.specs.declared.reading.Reading.TheVariants.{Ticks}
-use Rattle.scales.specs.Answers.{read_tick}
 use Rattle.dates.specs.Readings.{read_of}
 use Rattle.walk.specs.Walk.{to_tdb, to_tt, step_of}
 use Rattle.walk.proofs.OneStep.{tt_reached}
 use Rattle.scales.proofs.Reached.{nowhere, same_tick}
 use Rattle.image.specs.Image.{table_of}
-use Rattle.blocks.specs.declared.answer.Judged.{Judged}
-use Rattle.blocks.specs.declared.answer.Judged.TheVariants as J
 use Rattle.blocks.specs.Judging.{judged}
 use Rattle.blocks.proofs.Accepting.{accepted_table}
 use Rattle.ephemeris.specs.Table.{tdb_of}
 use Rattle.ephemeris.proofs.Promises.{earliest_of}
-use Rattle.desk.specs.Conversion.{held_by}
+use Rattle.desk.specs.Conversion.{held_by, convert_of}
 use Rattle.opened.specs.Opened.{coefficients_in}
-use Rattle.desk.specs.Conversion.{convert_of}
 use Rattle.scales.specs.declared.scale.Purpose.TheVariants as P
 use Rattle.scales.specs.Scales.{named, is_code}
-use Rattle.promises.specs.Words.{table_in}
-use Rattle.promises.specs.Words.{start_of}
-use Rattle.promises.specs.Tests.{code_tests, crossed_tests, reading_tests, step_tests, walk_tests, leap_tests}
+use Rattle.promises.specs.Words.{table_in, start_of}
+use Rattle.promises.specs.Tests.{code_tests, crossed_tests, reading_tests, step_tests, walk_tests}
+use Rattle.promises.specs.Tests.{leap_tests}
 use Rattle.promises.proofs.Told.{of_answer, conversion_told}
 use Rattle.promises.proofs.Parts.{tdb_number}
 use Rattle.promises.proofs.Exactly.{epoch_of, conversion_exactly}
 use Rattle.promises.proofs.Walks.{one_step, bytes_held}
-use Rattle.promises.proofs.Answers.{walked_from, reading_accepted, start_valid, tick_valid, ticks_read}
+use Rattle.promises.proofs.Answers.{walked_from, reading_accepted, start_valid, tick_valid}
+use Rattle.promises.proofs.Answers.{ticks_read}
 use Rattle.promises.proofs.Steps.{step_back}
 use Rattle.promises.proofs.Returning.{step_returns}
 
@@ -95,7 +92,7 @@ module _ (from to home : ℕ) (reading : Reading) (leaps : List ℤ) (bytes : Li
   between = neighbours (named from) (named to) one
 
   abbrev step_taken : Type 0
-  step_taken = step_of (table_in bytes) (coefficients_in bytes) between.step read ≡ Reached (epoch_of there)
+  step_taken = step_of (table_in bytes) (coefficients_in bytes) between.step read ≡ Ok (epoch_of there)
 
   taken_there : step_taken
   taken_there =
@@ -183,14 +180,14 @@ one_number from to tick bytes step single first second crossed valid =
     ranged = not (eqb (stepped_number stepped) 4)
 
     told : (answer : Answer) → of_answer (λ n p. n) 0 answer ≡ answer_number answer
-    told (Converted epoch many) = refl
-    told (Refused refusal) = refl
+    told (Ok converted) = refl
+    told (Err refusal) = refl
 
     by : (s : Stepped)
         → cond (not (eqb (stepped_number s) 6)) (cond (not (eqb (stepped_number s) 4)) 0 4) 6 ≡ stepped_number s
-    by (Reached epoch) = refl
-    by OutsideTable = refl
-    by OutsideRange = refl
+    by (Ok epoch) = refl
+    by (Err Outside.Table) = refl
+    by (Err Outside.Range) = refl
 
 -- ---- from TDB over the table, exactly: the way back is accepted where the TDB of the tick that
 -- was answered is in the range, else it is 4
@@ -205,7 +202,7 @@ module _ (from to : ℕ) (reading : Reading) (leaps : List ℤ) (bytes : List �
 
   -- the tick that was answered lies inside the table
   stands_inside : to_tt (table_in bytes) (coefficients_in bytes) (read_tick (read_of leaps reading))
-      ≡ Reached (epoch_of (convert_of from to reading leaps bytes))
+      ≡ Ok (epoch_of (convert_of from to reading leaps bytes))
       → stepped_number (to_tdb (table_in bytes) (coefficients_in bytes) reached) ≡ cond (is_valid tdb) 0 4
   stands_inside = by (judged bytes) refl
     where
@@ -214,10 +211,10 @@ module _ (from to : ℕ) (reading : Reading) (leaps : List ℤ) (bytes : List �
 
       by : (judgement : Judged) → judged bytes ≡ judgement
           → to_tt (held_by judgement) cs (read_tick (read_of leaps reading))
-          ≡ Reached (epoch_of (convert_of from to reading leaps bytes))
+          ≡ Ok (epoch_of (convert_of from to reading leaps bytes))
           → stepped_number (to_tdb (held_by judgement) cs reached) ≡ cond (is_valid tdb) 0 4
-      by (J.Refused refusal) j e = nowhere e
-      by (J.Accepted of) j e =
+      by (Err refusal) j e = nowhere e
+      by (Ok of) j e =
           let a = tt_reached of cs (read_tick (read_of leaps reading)) _ e in
           let inside = (earliest_of of cs (read_tick (read_of leaps reading)) a.covered).inside in
           let here = rw (same_tick a.is) at inside in

@@ -1,5 +1,11 @@
 -- What a conversion and a batch tell is what their lists of tests tell, in whatever it is told: the
 -- definitions of `desk` and `batch` beside the page's order. Assumes nothing.
+use Rattle.entries.specs.Batched.{Batched, refused_at}
+use Rattle.scales.specs.Answers.{Read, Stepped, Answer, converted_to, stepped_number, stepped_tick}
+use Rattle.blocks.specs.Answers.{Judged, judged_refused}
+use Rattle.image.specs.declared.table.Table.{Table}
+use Rattle.scales.specs.declared.answer.Outside.TheVariants as Outside
+use Rattle.std.specs.Prelude.{Err, Ok, Option}
 use mathlib.Core.Path.{◌≡◌, refl, sym, ◌∙◌, ap}
 use mathlib.Core.Bool.{Bool, true, false, cond, not}
 use mathlib.Core.List.{List, [], ◌∷◌, ◌++◌}
@@ -9,43 +15,33 @@ use lib.Dec.{eqb}
 use lib.Ieee.Scale.{finite}
 use lib.IntN.{ℤ}
 use lib.ListN.{length}
-use Rattle.numbers.specs.Tests.{Test, only, verdict}
-use Rattle.numbers.specs.Tests.{verdicts}
+use Rattle.numbers.specs.Tests.{Test, only, verdict, verdicts}
 use Rattle.numbers.proofs.Verdicts.{verdict_map}
-use Rattle.numbers.proofs.Exactly.{verdict_behind, only_told, Numbered, AllNumbered, numbered, numbered_both}
-use Rattle.scales.specs.declared.answer.Answer.{Answer}
-use Rattle.scales.specs.declared.answer.Answer.TheVariants.{Converted, Refused}
+use Rattle.numbers.proofs.Exactly.{verdict_behind, only_told, Numbered, AllNumbered, numbered}
+use Rattle.numbers.proofs.Exactly.{numbered_both}
 use Rattle.scales.specs.declared.answer.Epoch.{Epoch}
-use Rattle.scales.specs.declared.answer.Stepped.{Stepped}
-use Rattle.scales.specs.declared.answer.Stepped.TheVariants.{Reached, OutsideTable, OutsideRange}
 use Rattle.scales.specs.declared.path.Step.{Step}
 use Rattle.scales.specs.declared.scale.Purpose.TheVariants as P
-use Rattle.scales.specs.Answers.{stepped_number, stepped_tick}
 use Rattle.scales.specs.Path.{path, crosses, steps}
 use Rattle.scales.specs.Scales.{named, is_code}
 use Rattle.scales.specs.Tick.{is_valid}
 use Rattle.image.specs.Image.{table_of}
-use Rattle.blocks.specs.declared.answer.Judged.{Judged}
-use Rattle.blocks.specs.declared.answer.Judged.TheVariants as J
-use Rattle.blocks.specs.Answers.{judged_refused}
 use Rattle.blocks.specs.Judging.{judged, table_tests}
-use Rattle.scales.specs.declared.answer.Read.{Read}
-use Rattle.scales.specs.declared.answer.Read.TheVariants as R
 use Rattle.dates.specs.declared.reading.Reading.{Reading}
 use Rattle.dates.specs.declared.reading.Reading.TheVariants.{TwoPart, SinceJ2000, Ticks, Utc}
 use Rattle.dates.specs.Doubles.{beyond}
-use Rattle.dates.specs.Readings.{most_days, most_seconds, refused_if, in_range, read_of, purpose_of, read_of_parts, read_of_seconds, refused_with}
+use Rattle.dates.specs.Readings.{most_days, most_seconds, refused_if, in_range, read_of, purpose_of}
+use Rattle.dates.specs.Readings.{read_of_parts, read_of_seconds, refused_with}
 use Rattle.dates.specs.Ticks.{tick_of_date, tick_of_seconds}
-use Rattle.walk.specs.declared.kept.Kept.{Kept}
 use Rattle.walk.specs.Walk.{step_of, walk_of, after_step, walk_between}
 use Rattle.opened.specs.Opened.{coefficients_in}
-use Rattle.desk.specs.Order.{Check, passes, refuses, unless, first_of, of_table, settled, leaps_fit, leaps_right}
+use Rattle.desk.specs.Order.{Check, passes, refuses, unless, first_of, of_table, settled, leaps_fit}
+use Rattle.desk.specs.Order.{leaps_right}
 use Rattle.desk.specs.Conversion.{answering, started, between_of, convert_into, convert_read}
-use Rattle.entries.specs.declared.batched.Batched.{Batched}
-use Rattle.entries.specs.declared.batched.Batched.TheVariants as B
 use Rattle.entries.specs.Entries.{entry_of, earlier, tried_of}
 use Rattle.batch.specs.Batch.{batch_settled, batch_of}
-use Rattle.promises.specs.Tests.{code_tests, crossed_tests, reading_tests, tick_read, step_tests, walk_tests, entry_tests, batch_tests, leap_tests, tests_into}
+use Rattle.promises.specs.Tests.{code_tests, crossed_tests, reading_tests, tick_read, step_tests}
+use Rattle.promises.specs.Tests.{walk_tests, entry_tests, batch_tests, leap_tests, tests_into}
 use Rattle.promises.specs.Words.{table_in}
 use Rattle.scales.specs.declared.scale.Purpose.{Purpose}
 use Rattle.utc.specs.Days.{is_reading, tai_of}
@@ -54,15 +50,15 @@ use Rattle.utc.specs.Readings.{utc_read}
 -- ---- what a table's judgement tells, whatever it is told as
 module _ {A : Type 0} (refused : ℕ → ℕ → A) (last : A) where
   abbrev of_judged : Judged → A
-  of_judged (J.Accepted table) = last
-  of_judged (J.Refused refusal) = refused refusal.number refusal.place
+  of_judged (Ok table) = last
+  of_judged (Err refusal) = refused refusal.number refusal.place
 
   -- 'if the path crosses TT to TDB'
   crossed_told : (bytes : List ℕ) (over : Bool)
       → verdict refused last (cond over (table_tests bytes (table_of bytes)) [])
       ≡ cond over (of_judged (judged bytes)) last
   unfolding judged verdict
-  crossed_told bytes true = sym (verdict_map of_judged judged_refused (J.Accepted (table_of bytes)) (table_tests bytes (table_of bytes)))
+  crossed_told bytes true = sym (verdict_map of_judged judged_refused (Ok (table_of bytes)) (table_tests bytes (table_of bytes)))
   crossed_told bytes false = refl
 
   -- and what a check does
@@ -73,11 +69,11 @@ module _ {A : Type 0} (refused : ℕ → ℕ → A) (last : A) where
 -- ---- what an answer tells
 module _ {A : Type 0} (refused : ℕ → ℕ → A) (last : A) where
   abbrev pub of_answer : Answer → A
-  of_answer (Converted epoch many) = last
-  of_answer (Refused refusal) = refused refusal.number refusal.place
+  of_answer (Ok converted) = last
+  of_answer (Err refusal) = refused refusal.number refusal.place
 
   -- ---- a walk, step by step
-  walk_told : (kept : Kept) (cs : List ℤ) (p : List Step) (done : ℕ) (epoch : Epoch)
+  walk_told : (kept : Option Table) (cs : List ℤ) (p : List Step) (done : ℕ) (epoch : Epoch)
       → verdict refused last (step_tests kept cs p done epoch.tick) ≡ of_answer (walk_of kept cs p done epoch)
   unfolding verdict walk_of stepped_number stepped_tick
   walk_told kept cs [] done epoch = refl
@@ -99,9 +95,9 @@ module _ {A : Type 0} (refused : ℕ → ℕ → A) (last : A) where
           (refused 4 (suc done)))
           (refused 6 done)
           ≡ of_answer (after_step (walk_of kept cs more (suc done)) done s)
-      after (Reached on) rest = rest on
-      after OutsideTable rest = refl
-      after OutsideRange rest = refl
+      after (Ok on) rest = rest on
+      after (Err Outside.Table) rest = refl
+      after (Err Outside.Range) rest = refl
 
   -- ---- a reading before it: one of its tests, and what comes after
   module _ (walk : ℤ → Answer) where
@@ -122,14 +118,14 @@ module _ {A : Type 0} (refused : ℕ → ℕ → A) (last : A) where
 
     -- a UTC reading, with its tests stated the other way round
     of_utc : (leaps : List ℤ) (day ticks : ℤ) → let tai = tai_of leaps day ticks in
-        refused_if (not (is_reading leaps day ticks)) 5 0 (refused_if (not (is_valid tai)) 4 0 (R.Tick tai))
+        refused_if (not (is_reading leaps day ticks)) 5 0 (refused_if (not (is_valid tai)) 4 0 (Ok tai))
         ≡ utc_read leaps day ticks
     unfolding utc_read
     of_utc leaps day ticks = by (is_reading leaps day ticks) (is_valid (tai_of leaps day ticks))
       where
         by : (right valid : Bool) → let tai = tai_of leaps day ticks in
-            refused_if (not right) 5 0 (refused_if (not valid) 4 0 (R.Tick tai))
-            ≡ cond right (cond valid (R.Tick tai) (refused_with 4 0)) (refused_with 5 0)
+            refused_if (not right) 5 0 (refused_if (not valid) 4 0 (Ok tai))
+            ≡ cond right (cond valid (Ok tai) (refused_with 4 0)) (refused_with 5 0)
         by false valid = refl
         by true false = refl
         by true true = refl
@@ -143,14 +139,14 @@ module _ {A : Type 0} (refused : ℕ → ℕ → A) (last : A) where
         (unless_told (finite second) 2 1 _ _
         (one_told (beyond most_days first) 3 0 _ _
         (one_told (beyond most_days second) 3 1 _ _
-        (unless_told (is_valid (tick_of_date first second)) 4 0 _ (R.Tick _) e))))
+        (unless_told (is_valid (tick_of_date first second)) 4 0 _ (Ok _) e))))
     reading_told leaps (SinceJ2000 seconds) xs e =
         unless_told (finite seconds) 2 0 _ _
-        (one_told (beyond most_seconds seconds) 3 0 _ _ (unless_told (is_valid (tick_of_seconds seconds)) 4 0 _ (R.Tick _) e))
-    reading_told leaps (Ticks tick) xs e = unless_told (is_valid tick) 4 0 _ (R.Tick _) e
+        (one_told (beyond most_seconds seconds) 3 0 _ _ (unless_told (is_valid (tick_of_seconds seconds)) 4 0 _ (Ok _) e))
+    reading_told leaps (Ticks tick) xs e = unless_told (is_valid tick) 4 0 _ (Ok _) e
     reading_told leaps (Utc day ticks) xs e =
         unless_told (is_reading leaps day ticks) 5 0 _ _
-        (unless_told (is_valid (tai_of leaps day ticks)) 4 0 _ (R.Tick _) e)
+        (unless_told (is_valid (tai_of leaps day ticks)) 4 0 _ (Ok _) e)
         ∙ ap (λ (read : Read). of_answer (started walk read)) (of_utc leaps day ticks)
 
   between_told : (from to : ℕ) (reading : Reading) (leaps : List ℤ) (bytes : List ℕ)
@@ -178,8 +174,8 @@ module _ {A : Type 0} (refused : ℕ → ℕ → A) (answered : A) where
   settled_told true true false right over judgement = refl
   settled_told true true true false over judgement = refl
   settled_told true true true true false judgement = refl
-  settled_told true true true true true (J.Accepted table) = refl
-  settled_told true true true true true (J.Refused refusal) = refl
+  settled_told true true true true true (Ok table) = refl
+  settled_told true true true true true (Err refusal) = refl
 
 module _ {A : Type 0} (refused : ℕ → ℕ → A) (last : A) where
   checked : (check : Check) (answer : Answer)
@@ -227,8 +223,8 @@ module _ {A : Type 0} (refused : ℕ → ℕ → A) (last : A) where
 -- ---- a batch
 module _ {A : Type 0} (refused : ℕ → ℕ → ℕ → A) (last : A) where
   abbrev pub of_batched : Batched → A
-  of_batched (B.Converted many) = last
-  of_batched (B.Refused refusal index) = refused refusal.number refusal.place index
+  of_batched (Ok many) = last
+  of_batched (Err refused) = refused refused.refusal.number refused.refusal.place refused.index
 
   settled_batch : (check : Check) (batched : Batched)
       → of_check (λ n p. refused n p 0) (of_batched batched) check ≡ of_batched (batch_settled check batched)
@@ -252,8 +248,8 @@ module _ {A : Type 0} (refused : ℕ → ℕ → ℕ → A) (last : A) where
 
       first_of_lem : (answer : Answer) (later : Batched)
           → of_answer (λ n p. refused n p index) (of_batched later) answer ≡ of_batched (earlier answer index later)
-      first_of_lem (Converted epoch many) later = refl
-      first_of_lem (Refused refusal) later = refl
+      first_of_lem (Ok converted) later = refl
+      first_of_lem (Err refusal) later = refl
 
   pub batch_told : (from to : ℕ) (ticks : List ℤ) (many : ℕ) (bytes : List ℕ)
       → verdicts refused last (batch_tests from to ticks many bytes) ≡ of_batched (batch_of from to ticks many bytes)
@@ -288,7 +284,7 @@ reading_numbered leaps (SinceJ2000 seconds) = numbered (reading_tests leaps (Sin
 reading_numbered leaps (Ticks tick) = numbered (reading_tests leaps (Ticks tick)) refl
 reading_numbered leaps (Utc day ticks) = numbered (reading_tests leaps (Utc day ticks)) refl
 
-steps_numbered : (kept : Kept) (cs : List ℤ) (p : List Step) (done : ℕ) (tick : ℤ)
+steps_numbered : (kept : Option Table) (cs : List ℤ) (p : List Step) (done : ℕ) (tick : ℤ)
     → Numbered (step_tests kept cs p done tick)
 steps_numbered kept cs [] done tick = tt
 steps_numbered kept cs (step ∷ more) done tick = (omega arith, (omega arith, steps_numbered kept cs more (suc done) _))

@@ -1,5 +1,11 @@
 -- UTC in conversions: the list is looked at for code 7 alone, order 'as day first, then ticks, both
 -- epochs over one and the same list', there and back. Assumes nothing.
+use Rattle.scales.specs.Answers.{Answer, converted_to, answer_number, answer_tick, read_tick}
+use Rattle.scales.specs.Answers.{Accepts}
+use Rattle.written.specs.Answers.{UtcAnswer, utc_answer_number, utc_answer_place, utc_answer_day}
+use Rattle.written.specs.Answers.{utc_answer_ticks}
+use Rattle.utc.specs.Answers.{UtcWritten, utc_written_number, utc_written_day, utc_written_ticks}
+use Rattle.std.specs.Prelude.{Err, Ok}
 use mathlib.Core.Path.{◌≡◌, refl, sym, ◌∙◌, ap}
 use mathlib.Core.Logic.{◌⊎◌, inl, inr, ⊎_elim}
 use mathlib.Core.Bool.{true, false, Bool, cond}
@@ -13,7 +19,6 @@ use lib.ListN.{length}
 use lib.Signed.{◌≤ℤ◌, ◌<ℤ◌}
 use Rattle.scales.specs.declared.scale.Purpose.{Purpose}
 use Rattle.scales.specs.declared.scale.Purpose.TheVariants as P
-use Rattle.scales.specs.Answers.{answer_number, answer_tick, read_tick, Accepts}
 use Rattle.scales.specs.Scales.{is_code, named}
 use Rattle.utc.specs.Days.{EarlierUtc}
 use Rattle.utc.proofs.Beside.{weak}
@@ -29,24 +34,17 @@ use Rattle.promises.proofs.Exactly.{converted, into_numbered, into_exactly, give
 use Rattle.desk.proofs.Valid.{into_right}
 use Rattle.promises.proofs.Order.{into_in_order}
 use Rattle.promises.proofs.Walks.{apart, came_to}
-use Rattle.utc.specs.declared.writing.UtcWritten.{UtcWritten}
-use Rattle.utc.specs.declared.writing.UtcWritten.TheVariants as W
-use Rattle.utc.specs.Answers.{utc_written_number, utc_written_day, utc_written_ticks}
 use Rattle.utc.specs.Readings.{utc_read, utc_of, utc_written, is_writable}
-use Rattle.written.specs.declared.UtcAnswer.{UtcAnswer}
-use Rattle.written.specs.Answers.{utc_answer_number, utc_answer_place, utc_answer_day, utc_answer_ticks}
 use Rattle.written.specs.Written.{written_after, written_by, write_utc_of}
-use Rattle.scales.specs.declared.answer.Answer.{Answer}
-use Rattle.scales.specs.declared.answer.Answer.TheVariants as A
 use Rattle.numbers.specs.Tests.{Test, only, verdict, ToldExactly}
-use Rattle.numbers.proofs.Exactly.{told_exactly, verdict_behind, only_told, numbered_both, passes_only}
+use Rattle.numbers.proofs.Exactly.{told_exactly, verdict_behind, only_told, numbered_both}
+use Rattle.numbers.proofs.Exactly.{passes_only}
 use Rattle.numbers.proofs.Order.{≤-antisym, ≤-total}
 use Rattle.promises.specs.Tests.{tests_into, written_tests}
 use Rattle.promises.proofs.Told.{of_answer, conversion_told}
 use Rattle.scales.specs.Path.{path}
 use Rattle.scales.specs.declared.scale.Scale.TheVariants.{Tai}
 use lib.Dec.{eqb}
-use Rattle.scales.specs.declared.answer.Read.TheVariants as R
 use Rattle.utc.specs.Leaps.{is_list_right}
 use Rattle.utc.proofs.ThereAndBack.{utc_tai_utc, tai_utc_tai}
 use Rattle.promises.specs.Words.{table_in, Gives}
@@ -97,8 +95,8 @@ after_is : (steps : ℕ) (written : UtcWritten) → let answer = written_after s
     (utc_answer_number answer ≡ utc_written_number written) × (utc_answer_day answer ≡ utc_written_day written)
     × (utc_answer_ticks answer ≡ utc_written_ticks written)
 unfolding utc_answer_number utc_answer_day utc_answer_ticks utc_written_number utc_written_day utc_written_ticks
-after_is steps (W.Utc utc) = (refl, refl, refl)
-after_is steps (W.Refused refusal) = (refl, refl, refl)
+after_is steps (Ok utc) = (refl, refl, refl)
+after_is steps (Err refusal) = (refl, refl, refl)
 
 -- an accepted one comes of an accepted conversion
 pub record Written (from to : ℕ) (reading : Reading) (leaps : List ℤ) (bytes : List ℕ) : Type 0 where
@@ -115,10 +113,10 @@ written_of from to reading leaps bytes zero = by (convert_into P.Utc from to rea
   where
     by : (answer : Answer) → convert_into P.Utc from to reading leaps bytes ≡ answer
         → utc_answer_number (written_by leaps answer) ≡ 0 → Written from to reading leaps bytes
-    by (A.Converted epoch steps) e z =
-        let w = after_is steps (utc_written leaps epoch.tick) in
+    by (Ok converted) e z =
+        let w = after_is converted.steps (utc_written leaps converted.epoch.tick) in
         record { accepted = rw e; is = rw e (sym w.0 ∙ z, w.1, w.2) }
-    by (A.Refused refusal) e z = apart (sym e ∙ converted P.Utc from to reading leaps bytes (rw e z))
+    by (Err refusal) e z = apart (sym e ∙ converted P.Utc from to reading leaps bytes (rw e z))
 
 -- ---- '5 .. a written one after the steps': each refusal of a written UTC exactly when
 pub into_utc_exactly : (from to : ℕ) (reading : Reading) (leaps : List ℤ) (bytes : List ℕ)
@@ -144,20 +142,20 @@ into_utc_exactly from to reading leaps bytes =
     by : (answer : Answer)
         → ◌≡◌ {A = ℕ × ℕ} (of_answer pair (verdict pair (0, 0) (last answer)) answer)
         (utc_answer_number (written_by leaps answer), utc_answer_place (written_by leaps answer))
-    by (A.Converted epoch steps) =
-        only_told pair (0, 0) 5 0 [] (is_writable leaps epoch.tick) ∙ told (is_writable leaps epoch.tick)
+    by (Ok converted) =
+        only_told pair (0, 0) 5 0 [] (is_writable leaps converted.epoch.tick) ∙ told (is_writable leaps converted.epoch.tick)
       where
         written : Bool → UtcAnswer
         written right =
-            written_after steps
-            (cond right (W.Utc (utc_of leaps epoch.tick)) (W.Refused (record { number = 5; place = 0 })))
+            written_after converted.steps
+            (cond right (Ok (utc_of leaps converted.epoch.tick)) (Err (record { number = 5; place = 0 })))
 
         told : (right : Bool)
             → ◌≡◌ {A = ℕ × ℕ} (cond right (0, 0) (5, 0))
             (utc_answer_number (written right), utc_answer_place (written right))
         told true = refl
         told false = refl
-    by (A.Refused refusal) = refl
+    by (Err refusal) = refl
 
 -- ---- of two epochs the earlier never gets the later UTC
 -- day and ticks are the same, or the earlier as day first, then ticks
@@ -202,12 +200,12 @@ module _ (leaps : List ℤ) (bytes : List ℕ) where
   -- where the list passes, a valid tick of TAI is written as it is, and a right reading read
   module _ (fits : eqb (length leaps % 2) 0 ≡ true) (right : is_list_right leaps ≡ true) (tick : ℤ) where
     goes_into : is_valid tick ≡ true
-        → convert_into P.Utc 2 7 (Ticks tick) leaps bytes ≡ A.Converted (record { scale = Tai; tick = tick }) 0
+        → convert_into P.Utc 2 7 (Ticks tick) leaps bytes ≡ converted_to (record { scale = Tai; tick = tick }) 0
     unfolding convert_into convert_read settled between_of read_of in_range walk_of
     goes_into valid = rw (fits, right, valid)
 
-    comes_out : (day ticks : ℤ) → utc_read leaps day ticks ≡ R.Tick tick
-        → convert_of 7 2 (Utc day ticks) leaps bytes ≡ A.Converted (record { scale = Tai; tick = tick }) 0
+    comes_out : (day ticks : ℤ) → utc_read leaps day ticks ≡ Ok tick
+        → convert_of 7 2 (Utc day ticks) leaps bytes ≡ converted_to (record { scale = Tai; tick = tick }) 0
     unfolding convert_into convert_read settled between_of read_of walk_of
     comes_out day ticks is = rw (fits, right, is)
 
@@ -230,11 +228,11 @@ module _ (leaps : List ℤ) (bytes : List ℕ) where
 
   -- a reading that is accepted is that tick
   read_tick_lem : (tick day ticks : ℤ) → Accepts (utc_read leaps day ticks) tick → utc_read leaps day ticks
-      ≡ R.Tick tick
+      ≡ Ok tick
   unfolding utc_read
   read_tick_lem tick day ticks a =
       let r = read_as leaps day ticks a.0 in
-      rw (r.reading, r.valid) (ap R.Tick (sym r.tick ∙ a.1))
+      rw (r.reading, r.valid) (ap Ok (sym r.tick ∙ a.1))
 
   -- and TAI to UTC to TAI, where it is accepted
   pub tai_and_back : (tick : ℤ) → let there = write_utc_of 2 7 (Ticks tick) leaps bytes in

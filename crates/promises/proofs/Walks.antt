@@ -1,6 +1,9 @@
 -- What an accepted conversion has gone through: both codes name a scale, the reading is a tick, and
 -- from it the walk over the path between the two scales, over what the table bytes hold. Assumes
 -- nothing.
+use Rattle.scales.specs.Answers.{Read, Answer, converted_to}
+use Rattle.blocks.specs.Answers.{Judged}
+use Rattle.std.specs.Prelude.{Err, Ok, Option, Some}
 use mathlib.Core.Path.{◌≡◌, refl, sym, ◌∙◌, ap}
 use mathlib.Core.Bool.{Bool, true, false, cond}
 use mathlib.Core.List.{List, [], ◌∷◌}
@@ -8,8 +11,6 @@ use Prim.Native.Nat.{ℕ, suc, ◌≤◌, zero-le}
 use native.Mathlib.Omega.{arith}
 use borrow.Author.Tests.{le-leb}
 use lib.IntN.{ℤ}
-use Rattle.scales.specs.declared.answer.Answer.{Answer}
-use Rattle.scales.specs.declared.answer.Answer.TheVariants.{Converted, Refused}
 use Rattle.scales.specs.declared.answer.Epoch.{Epoch}
 use Rattle.scales.specs.declared.refusal.Refusal.{Refusal}
 use Rattle.scales.specs.declared.path.Step.{Step}
@@ -19,22 +20,16 @@ use Rattle.scales.specs.Path.{crosses}
 use Rattle.scales.proofs.Paths.{Leads}
 use Rattle.scales.proofs.Reached.{same_scale}
 use Rattle.image.specs.declared.table.Table.{Table}
-use Rattle.blocks.specs.declared.answer.Judged.{Judged}
-use Rattle.blocks.specs.declared.answer.Judged.TheVariants as J
 use Rattle.blocks.specs.Judging.{judged}
-use Rattle.scales.specs.declared.answer.Read.{Read}
-use Rattle.scales.specs.declared.answer.Read.TheVariants as R
 use Rattle.dates.specs.declared.reading.Reading.{Reading}
 use Rattle.dates.specs.Readings.{read_of, purpose_of, in_range}
-use Rattle.scales.specs.declared.answer.Stepped.TheVariants.{Reached}
-use Rattle.walk.specs.declared.kept.Kept.{Kept}
-use Rattle.walk.specs.declared.kept.Kept.TheVariants as K
-use Rattle.desk.specs.Order.{Check, passes, unless, first_of, of_table, settled, leaps_fit, leaps_right}
+use Rattle.desk.specs.Order.{Check, passes, unless, first_of, of_table, settled, leaps_fit}
+use Rattle.desk.specs.Order.{leaps_right}
 use Rattle.opened.specs.Opened.{coefficients_in}
-use Rattle.desk.specs.Conversion.{answering, started, between_of, convert_of, convert_into, convert_read}
+use Rattle.desk.specs.Conversion.{answering, started, between_of, convert_of, convert_into}
+use Rattle.desk.specs.Conversion.{convert_read}
 use Rattle.walk.specs.Inner.{Held}
-use Rattle.walk.specs.Walk.{answer_refused, step_of, walk_of}
-use Rattle.walk.specs.Walk.{walk_between}
+use Rattle.walk.specs.Walk.{answer_refused, step_of, walk_of, walk_between}
 use Rattle.walk.proofs.OneStep.{step_ends}
 use Rattle.walk.proofs.Steps.{not_both, stepping}
 use Rattle.scales.specs.Scales.{highest_code, is_code, named, lowest_code}
@@ -45,20 +40,20 @@ use Rattle.dates.specs.declared.reading.Reading.TheVariants.{Ticks}
 use Rattle.numbers.proofs.Flags.{never}
 
 -- an answer is no refusal
-pub apart : {A : Type 0} {refusal : Refusal} {epoch : Epoch} {steps : ℕ} → Refused refusal ≡ Converted epoch steps → A
+pub apart : {A : Type 0} {refusal : Refusal} {epoch : Epoch} {steps : ℕ} → Err refusal ≡ converted_to epoch steps → A
 apart e = not_both refl e
 
 -- ---- an accepted walk
 module _ (epoch : Epoch) (steps : ℕ) where
   -- it came to the epoch that it answers
-  pub came_to : (kept : Kept) (cs : List ℤ) (done : ℕ) (start : Epoch)
-      → walk_of kept cs [] done start ≡ Converted epoch steps → start ≡ epoch
+  pub came_to : (kept : Option Table) (cs : List ℤ) (done : ℕ) (start : Epoch)
+      → walk_of kept cs [] done start ≡ converted_to epoch steps → start ≡ epoch
   unfolding walk_of
   came_to kept cs done start e = cc
 
   -- and the scale is where the path led
-  pub scale_walked : (kept : Kept) (cs : List ℤ) (p : List Step) (to : Scale) (done : ℕ) (start : Epoch)
-      → Leads start.scale to p → walk_of kept cs p done start ≡ Converted epoch steps → epoch.scale ≡ to
+  pub scale_walked : (kept : Option Table) (cs : List ℤ) (p : List Step) (to : Scale) (done : ℕ) (start : Epoch)
+      → Leads start.scale to p → walk_of kept cs p done start ≡ converted_to epoch steps → epoch.scale ≡ to
   unfolding walk_of
   scale_walked kept cs [] to done start l e = sym (same_scale (came_to kept cs done start e)) ∙ l
   scale_walked kept cs (step ∷ more) to done start l e =
@@ -67,13 +62,13 @@ module _ (epoch : Epoch) (steps : ℕ) where
       scale_walked kept cs more to (suc done) x.at (rw ends l.1) x.onwards
 
 -- over a path of one step, an answer is where the step came to
-pub one_step : (kept : Kept) (cs : List ℤ) (step : Step) (p : List Step) → p ≡ step ∷ [] → (start e : Epoch) (m : ℕ)
-    → walk_of kept cs p 0 start ≡ Converted e m
-    → step_of kept cs step start.tick ≡ Reached e
+pub one_step : (kept : Option Table) (cs : List ℤ) (step : Step) (p : List Step) → p ≡ step ∷ [] → (start e : Epoch) (m : ℕ)
+    → walk_of kept cs p 0 start ≡ converted_to e m
+    → step_of kept cs step start.tick ≡ Ok e
 unfolding walk_of
 one_step kept cs step p single start e m w =
     let x = stepping e m (walk_of kept cs [] 1) 0 (step_of kept cs step start.tick) (rw single at w) in
-    x.reached ∙ ap Reached (came_to e m kept cs 1 x.at x.onwards)
+    x.reached ∙ ap Ok (came_to e m kept cs 1 x.at x.onwards)
 
 -- ---- what a conversion comes to: a code, the list of leap seconds or the table is refused, or it
 -- is a walk between the two scales over what the bytes hold
@@ -87,8 +82,8 @@ pub data Course (writes : Purpose) (from to : ℕ) (reading : Reading) (leaps : 
       → Course writes from to reading leaps bytes answer
   list_wrong : leaps_right (purpose_of reading) writes leaps ≡ false → answer ≡ answer_refused 7 0
       → Course writes from to reading leaps bytes answer
-  table_refused : crosses (named from) (named to) ≡ true → (r : Refusal) → judged bytes ≡ J.Refused r
-      → answer ≡ Refused r → Course writes from to reading leaps bytes answer
+  table_refused : crosses (named from) (named to) ≡ true → (r : Refusal) → judged bytes ≡ Err r
+      → answer ≡ Err r → Course writes from to reading leaps bytes answer
   walking : answer ≡ between_of (named from) (named to) (read_of leaps reading) (table_in bytes) (coefficients_in bytes)
       → Course writes from to reading leaps bytes answer
 
@@ -104,8 +99,8 @@ module _ (writes : Purpose) (from to : ℕ) (reading : Reading) (leaps : List �
   by_table : crosses (named from) (named to) ≡ true → (judgement : Judged) → judged bytes ≡ judgement
       → Course writes from to reading leaps bytes (answering (checks true true true true true judgement) walk_of_lem)
   unfolding walk_of_lem checks
-  by_table o (J.Accepted table) j = walking refl
-  by_table o (J.Refused r) j = table_refused o r j refl
+  by_table o (Ok table) j = walking refl
+  by_table o (Err r) j = table_refused o r j refl
 
   by_path : (over : Bool) → crosses (named from) (named to) ≡ over
       → Course writes from to reading leaps bytes
@@ -133,21 +128,21 @@ module _ (writes : Purpose) (from to : ℕ) (reading : Reading) (leaps : List �
 pub record Walk (from to : ℕ) (reading : Reading) (leaps : List ℤ) (bytes : List ℕ) (epoch : Epoch) (steps : ℕ)
     : Type 0 where
   pub tick : ℤ
-  pub read : read_of leaps reading ≡ R.Tick tick
-  pub walk : walk_between (table_in bytes) (coefficients_in bytes) (named from) (named to) tick ≡ Converted epoch steps
+  pub read : read_of leaps reading ≡ Ok tick
+  pub walk : walk_between (table_in bytes) (coefficients_in bytes) (named from) (named to) tick ≡ converted_to epoch steps
 
 pub walked : (writes : Purpose) (from to : ℕ) (reading : Reading) (leaps : List ℤ) (bytes : List ℕ) (epoch : Epoch)
-    (steps : ℕ) → convert_into writes from to reading leaps bytes ≡ Converted epoch steps
+    (steps : ℕ) → convert_into writes from to reading leaps bytes ≡ converted_to epoch steps
     → Walk from to reading leaps bytes epoch steps
 unfolding between_of
 walked writes from to reading leaps bytes epoch steps e = by (course writes from to reading leaps bytes)
   where
     was_read : (read : Read) → read_of leaps reading ≡ read
         → started (walk_between (table_in bytes) (coefficients_in bytes) (named from) (named to)) read
-        ≡ Converted epoch steps
+        ≡ converted_to epoch steps
         → Walk from to reading leaps bytes epoch steps
-    was_read (R.Tick tick) r w = record { tick = tick; read = r; walk = w }
-    was_read (R.Refused refusal) r w = apart w
+    was_read (Ok tick) r w = record { tick = tick; read = r; walk = w }
+    was_read (Err refusal) r w = apart w
 
     by : Course writes from to reading leaps bytes (convert_into writes from to reading leaps bytes)
         → Walk from to reading leaps bytes epoch steps
@@ -163,15 +158,15 @@ is_code_lem : (code : ℕ) → code ≤ highest_code P.Reading → is_code P.Rea
 is_code_lem code h = rw (le-leb (lowest_code P.Reading) code zero-le, le-leb code (highest_code P.Reading) h)
 
 pub between_named : (from to : ℕ) (tick : ℤ) (bytes : List ℕ) (table : Table)
-    → from ≤ highest_code P.Reading → to ≤ highest_code P.Reading → judged bytes ≡ J.Accepted table
+    → from ≤ highest_code P.Reading → to ≤ highest_code P.Reading → judged bytes ≡ Ok table
     → convert_of from to (Ticks tick) [] bytes
-    ≡ between_of (named from) (named to) (in_range tick) (K.Table table) (coefficients_in bytes)
+    ≡ between_of (named from) (named to) (in_range tick) (Some table) (coefficients_in bytes)
 unfolding read_of
 between_named from to tick bytes table f t j = by (course P.Reading from to (Ticks tick) [] bytes)
   where
     by : Course P.Reading from to (Ticks tick) [] bytes (convert_of from to (Ticks tick) [] bytes)
         → convert_of from to (Ticks tick) [] bytes
-        ≡ between_of (named from) (named to) (in_range tick) (K.Table table) (coefficients_in bytes)
+        ≡ between_of (named from) (named to) (in_range tick) (Some table) (coefficients_in bytes)
     by (from_refused g is) = never (sym g ∙ is_code_lem from f)
     by (to_refused h is) = never (sym h ∙ is_code_lem to t)
     by (list_unfit l is) = never (sym l)

@@ -1,11 +1,10 @@
 -- The words in which the promises speak of a refusal's number and place.
+use Rattle.scales.specs.Answers.{Answer, answer_number, answer_tick, answer_steps, stepped_number}
 use Rattle.std.specs.Prelude.{◌≡◌, Bool, true, false, cond, not, ◌||◌, List, [], ◌∷◌, ◌++◌, ℕ, suc}
 use Rattle.std.specs.Prelude.{eqb, ℤ, pos}
 use Rattle.std.specs.Float.{fin}
 use Rattle.numbers.specs.Tests.{numbers_of}
-use Rattle.scales.specs.declared.answer.Answer.{Answer}
 use Rattle.scales.specs.declared.path.Step.{Step}
-use Rattle.scales.specs.Answers.{answer_number, answer_tick, answer_steps, stepped_number}
 use Rattle.scales.specs.Path.{path, any_over_table}
 use Rattle.scales.specs.Rows.{over_table}
 use Rattle.opened.specs.Opened.{coefficients_in}

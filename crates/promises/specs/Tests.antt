@@ -2,7 +2,8 @@
 -- over both parts, 3 over both parts (the first part first in each), 4, then step by step, 6 before
 -- 4.' Of UTC 7 comes 'after 8 and before 10', 5 'after 3'. The tests of a conversion as one list,
 -- and those of a batch as one list for each index, every test with its number and its place.
-use Rattle.std.specs.Prelude.{cond, not, List, [], ◌∷◌, ◌++◌, ℕ, suc, eqb, ℤ, length}
+use Rattle.image.specs.declared.table.Table.{Table}
+use Rattle.std.specs.Prelude.{Option, cond, not, List, [], ◌∷◌, ◌++◌, ℕ, suc, eqb, ℤ, length}
 use Rattle.std.specs.Float.Ieee.Scale.{finite}
 use Rattle.numbers.specs.Tests.{Test, only}
 use Rattle.scales.specs.declared.path.Step.{Step}
@@ -23,7 +24,6 @@ use Rattle.desk.specs.Order.{leaps_fit, leaps_right}
 use Rattle.desk.specs.Conversion.{convert_into}
 use Rattle.utc.specs.Days.{is_reading, tai_of}
 use Rattle.utc.specs.Readings.{is_writable}
-use Rattle.walk.specs.declared.kept.Kept.{Kept}
 use Rattle.walk.specs.Walk.{step_of}
 use Rattle.opened.specs.Opened.{coefficients_in}
 use Rattle.promises.specs.Words.{table_in}
@@ -73,7 +73,7 @@ tick_read leaps (Utc day ticks) = tai_of leaps day ticks
 -- 'step by step, 6 before 4', from a tick on, when so many steps are done: '6: outside the table',
 -- place 'steps done'; '4: epoch outside the range .. between steps or at the end', place 'steps
 -- done, the one that led outside counted'
-abbrev pub step_tests : Kept → List ℤ → List Step → ℕ → ℤ → List Test
+abbrev pub step_tests : Option Table → List ℤ → List Step → ℕ → ℤ → List Test
 step_tests kept coefficients [] done tick = []
 step_tests kept coefficients (step ∷ more) done tick =
     let stepped = step_of kept coefficients step tick in

@@ -1,20 +1,18 @@
 -- The words in which the promises speak of a conversion and of a line, beside those of `desk`.
-use Rattle.std.specs.Prelude.{◌≡◌, ◌⊎◌, cond, List, [], ◌∷◌, ℕ, ◌*◌, ◌^◌, ◌<◌, eqb, ℤ, pos, ◌<ℤ◌}
-use Rattle.scales.specs.declared.answer.Answer.{Answer}
+use Rattle.blocks.specs.Answers.{Judged, judged_number, judged_start, judged_length, judged_count}
+use Rattle.blocks.specs.Answers.{judged_degree}
+use Rattle.scales.specs.Answers.{Answer, answer_number, answer_scale, answer_tick, answer_steps}
+use Rattle.std.specs.Prelude.{Option, ◌≡◌, ◌⊎◌, cond, List, [], ◌∷◌, ℕ, ◌*◌, ◌^◌, ◌<◌, eqb, ℤ, pos}
+use Rattle.std.specs.Prelude.{◌<ℤ◌}
 use Rattle.scales.specs.declared.answer.Epoch.{Epoch}
 use Rattle.scales.specs.declared.scale.Purpose.TheVariants as P
 use Rattle.scales.specs.declared.scale.Scale.{Scale}
-use Rattle.scales.specs.Answers.{answer_number, answer_scale, answer_tick, answer_steps}
 use Rattle.scales.specs.Scales.{highest_code, named}
 use Rattle.granule.specs.Rule.{units_in_tick}
 use Rattle.image.specs.declared.table.Table.{Table}
 use Rattle.image.specs.Image.{table_of}
-use Rattle.blocks.specs.declared.answer.Judged.{Judged}
-use Rattle.blocks.specs.Answers.{judged_number, judged_start, judged_length, judged_count}
-use Rattle.blocks.specs.Answers.{judged_degree}
 use Rattle.blocks.specs.Judging.{judged}
 use Rattle.ephemeris.specs.Table.{H, place_of, table_exact}
-use Rattle.walk.specs.declared.kept.Kept.{Kept}
 use Rattle.opened.specs.Opened.{coefficients_in}
 use Rattle.desk.specs.Conversion.{held_by}
 use Rattle.comparing.specs.Changes.{Entry, largest_of, sum_of}
@@ -39,7 +37,7 @@ Tells judgement table =
     × (judged_degree judgement ≡ table.degree)
 
 -- the table that bytes hold, where they are accepted
-abbrev pub table_in : List ℕ → Kept
+abbrev pub table_in : List ℕ → Option Table
 table_in bytes = held_by (judged bytes)
 
 -- a line's number that is no code: 'A code outside 0..6'

@@ -8,7 +8,7 @@ use lib.IntN.{ℤ}
 use Rattle.scales.specs.declared.answer.Epoch.{Epoch}
 use Rattle.scales.specs.declared.answer.Outside.TheVariants as Outside
 use Rattle.scales.specs.declared.scale.Scale.{Scale}
-use Rattle.scales.specs.Answers.{Stepped, kept_in}
+use Rattle.scales.specs.Answers.{Answer, Stepped, answer_steps, converted_to, kept_in}
 use Rattle.scales.specs.Tick.{is_valid}
 
 pub nowhere : {A : Type 0} {epoch : Epoch} → (Err Outside.Table) ≡ Ok epoch → A
@@ -49,3 +49,15 @@ kept_inside {A} scale tick e = by (is_valid tick) e
     by : (valid : Bool) → cond {A = Stepped} valid (Ok (record { scale = scale; tick = tick })) (Err Outside.Range) ≡ (Err Outside.Table) → A
     by true e = let z : ◌≡◌ {A = ℕ} 0 1 = cc in let no : ⊥ = omega arith in absurd no
     by false e = let z : ◌≡◌ {A = ℕ} 0 1 = cc in let no : ⊥ = omega arith in absurd no
+
+-- ---- two accepted answers that are equal: their epochs, and their steps
+abbrev epoch_of : Epoch → Answer → Epoch
+epoch_of else (Ok converted) = converted.epoch
+epoch_of else (Err refusal) = else
+
+pub same_epoch : {x y : Epoch} {m n : ℕ} → converted_to x m ≡ converted_to y n → x ≡ y
+same_epoch {x} e = ap (epoch_of x) e
+
+pub same_steps : {x y : Epoch} {m n : ℕ} → converted_to x m ≡ converted_to y n → m ≡ n
+unfolding answer_steps
+same_steps e = ap answer_steps e

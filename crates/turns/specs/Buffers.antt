@@ -1,6 +1,6 @@
 -- What the program's functions ask of the buffers that they are lent, and what they leave in them.
+use Rattle.blocks.specs.Answers.{Judged}
 use Rattle.std.specs.Prelude.{◌≡◌, false, List, ℕ, ◌*◌, ◌≤◌, ℤ, length, take}
-use Rattle.blocks.specs.declared.answer.Judged.{Judged}
 use Rattle.opened.specs.Opened.{Lent}
 use Rattle.printing.specs.Buffers.{longest}
 use Rattle.lines.specs.Output.{has_newline}

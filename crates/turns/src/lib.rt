@@ -5,11 +5,12 @@
 
 ghost use Rattle.turns.specs.Buffers.{Waiting, Left, Buffered, Large};
 
-use blocks::answer::Judged;
 use blocks::judging::judge;
 use files::standard::{print, read_input};
 use lines::{answer_last, feed};
+use image::table::Table;
 use opened::{how_many, taken};
+use scales::refusal::Refusal;
 
 // What a turn leaves: how many bytes of an unfinished line, and its number; or that the input has
 // ended, or that nothing more can be printed.
@@ -27,7 +28,7 @@ fn turn(
     text: &mut [u8],
     kept: usize,
     line: u64,
-    judged: Judged,
+    judged: Result<Table, Refusal>,
     coefficients: &[i64],
     out: &mut [u8],
 ) -> Outcome
@@ -51,7 +52,7 @@ fn turn(
 fn run(
     rt: &(impl Input + Print + Eprint),
     text: &mut [u8],
-    judged: Judged,
+    judged: Result<Table, Refusal>,
     coefficients: &[i64],
     out: &mut [u8],
 )
@@ -85,11 +86,11 @@ pub fn run_over(rt: &(impl Input + Print + Eprint), bytes: &[u8], text: &mut [u8
 {
     let judged = judge(bytes);
     match judged {
-        Judged::Accepted(table) => {
+        Ok(table) => {
             let coefficients = taken(bytes, table);
             let many = how_many(table);
             run(rt, text, judged, &coefficients[..many], out);
         }
-        Judged::Refused(_) => run(rt, text, judged, &[], out),
+        Err(_) => run(rt, text, judged, &[], out),
     }
 }

@@ -1,4 +1,6 @@
 -- What an accepted reading and an accepted writing have, and back, by number. Assumes nothing.
+use Rattle.scales.specs.Answers.{Read, read_number, read_tick}
+use Rattle.std.specs.Prelude.{Err, Ok}
 use mathlib.Core.Path.{◌≡◌, refl}
 use mathlib.Core.Bool.{Bool, true, false, cond}
 use mathlib.Core.List.{List}
@@ -7,13 +9,10 @@ use lib.IntN.{ℤ, pos, ◌-ℤ◌}
 use lib.Signed.{◌≤ℤ◌}
 use Rattle.numbers.proofs.Machine.{le_yes}
 use Rattle.scales.specs.Tick.{is_valid}
-use Rattle.scales.specs.declared.answer.Read.{Read}
-use Rattle.scales.specs.declared.answer.Read.TheVariants as R
-use Rattle.utc.specs.declared.writing.UtcWritten.TheVariants as W
 use Rattle.utc.specs.Leaps.{list_day}
 use Rattle.utc.specs.Days.{is_reading, day_start, tai_of}
-use Rattle.utc.specs.Readings.{utc_day, is_writable, utc_refused, utc_ticks, utc_of, utc_read, utc_written}
-use Rattle.scales.specs.Answers.{read_number, read_tick}
+use Rattle.utc.specs.Readings.{utc_day, is_writable, utc_refused, utc_ticks, utc_of, utc_read}
+use Rattle.utc.specs.Readings.{utc_written}
 use Rattle.utc.specs.Answers.{utc_written_day, utc_written_number, utc_written_ticks}
 
 pub record UtcReadAs (leaps : List ℤ) (day ticks : ℤ) : Type 0 where
@@ -26,7 +25,7 @@ unfolding utc_read read_number read_tick
 read_as leaps day ticks e = by (is_reading leaps day ticks) (is_valid (tai_of leaps day ticks)) refl refl e
   where
     answer : Bool → Bool → Read
-    answer reading valid = cond reading (cond valid (R.Tick (tai_of leaps day ticks)) (utc_refused 4)) (utc_refused 5)
+    answer reading valid = cond reading (cond valid (Ok (tai_of leaps day ticks)) (utc_refused 4)) (utc_refused 5)
 
     by : (reading valid : Bool) → is_reading leaps day ticks ≡ reading → is_valid (tai_of leaps day ticks) ≡ valid
         → read_number (answer reading valid) ≡ 0 → UtcReadAs leaps day ticks
@@ -51,7 +50,7 @@ written_as leaps tick e = by (is_writable leaps tick) refl e
   where
     by : (writable : Bool) → is_writable leaps tick ≡ writable
         → utc_written_number
-        (cond writable (W.Utc (utc_of leaps tick)) (W.Refused (record { number = 5; place = 0 }))) ≡ 0
+        (cond writable (Ok (utc_of leaps tick)) (Err (record { number = 5; place = 0 }))) ≡ 0
         → UtcWrittenAs leaps tick
     by true w n = record { begun = le_yes _ _ w; day = rw w; ticks = rw w }
     by false w n = let no : ⊥ = omega arith in absurd no

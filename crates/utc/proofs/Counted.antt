@@ -1,6 +1,7 @@
 -- The day that the definition writes for a tick is the day within which it is. Counted from the
 -- first day of the entry in force it is the day itself, or, in a leap second, the next entry's
 -- first day, which has not begun. Assumes nothing.
+use Rattle.std.specs.Prelude.{Err, Ok}
 use mathlib.Core.Path.{◌≡◌, refl, sym, ◌∙◌, ap}
 use mathlib.Core.Bool.{true, cond}
 use mathlib.Core.List.{List}
@@ -18,10 +19,10 @@ use Rattle.numbers.proofs.Differences.{rep₂, rep₃, rep₄, lin}
 use Rattle.numbers.proofs.Machine.{le_yes, lt_yes, yes_le, no_le, read_is}
 use Rattle.numbers.proofs.Order.{le_or_lt, ≤-antisym, ≤_trans, ≤-total}
 use Rattle.numbers.proofs.Rounding.{Floored, floored}
-use Rattle.utc.specs.declared.writing.UtcWritten.TheVariants as W
 use Rattle.utc.specs.Leaps.{entries, first_day, seconds, is_list_right, list_day}
 use Rattle.utc.specs.Days.{day_ticks, seconds_on, day_start, tai_by, tai_of}
-use Rattle.utc.specs.Readings.{counted_day, utc_day, entry_at, entry_start, is_writable, utc_ticks, utc_of, utc_written}
+use Rattle.utc.specs.Readings.{counted_day, utc_day, entry_at, entry_start, is_writable, utc_ticks}
+use Rattle.utc.specs.Readings.{utc_of, utc_written}
 use Rattle.utc.proofs.Beside.{and_on, before, under, weak}
 use Rattle.utc.proofs.Fitting.{le_no}
 use Rattle.utc.proofs.Last.{Last, last_last}
@@ -222,7 +223,7 @@ module _ (leaps : List ℤ) (e : is_list_right leaps ≡ true) where
 
   -- a tick within a day is written as that day and the ticks since its start
   pub within_written : (tick day : ℤ) → Within leaps tick day
-      → utc_written leaps tick ≡ W.Utc (record { day = day; ticks = tick -ℤ day_start leaps day })
+      → utc_written leaps tick ≡ Ok (record { day = day; ticks = tick -ℤ day_start leaps day })
   unfolding utc_written is_writable utc_of utc_ticks
   within_written tick day w =
       let first = ≤_trans (day_start leaps (pos list_day)) (day_start leaps day) tick (no_earlier_start day w.begun) w.from in
@@ -232,7 +233,7 @@ module _ (leaps : List ℤ) (e : is_list_right leaps ≡ true) where
 -- a tick before day 41317, by the code's test
 pub early : (leaps : List ℤ) (tick : ℤ) → is_list_right leaps ≡ true → SFits w64 tick
     → lt_z (to_z w64 (of_z w64 tick)) (neg_ℤ (pos 157852822184000000)) ≡ true
-    → W.Refused (record { number = 5; place = 0 }) ≡ utc_written leaps tick
+    → Err (record { number = 5; place = 0 }) ≡ utc_written leaps tick
 unfolding utc_written is_writable
 early leaps tick e f h =
     let l = lt_yes _ _ (rw (read_is tick f) at h) in

@@ -6,14 +6,14 @@ use mathlib.Core.List.{List, [], ◌∷◌}
 use lib.IntN.{ℤ, pos, negsuc, neg_ℤ}
 use Rattle.numbers.specs.Lowest.{every}
 use Rattle.scales.specs.Tick.{is_valid}
-use Rattle.utc.specs.Leaps.{entries, first_day, is_start_right, is_count_right, is_next_right, is_list_right, seconds}
-use Rattle.utc.specs.Days.{entry_on, is_reading, last_of, length_by, length_of, seconds_on, day_start, tai_by, tai_of}
+use Rattle.utc.specs.Leaps.{entries, first_day, is_start_right, is_count_right, is_next_right}
+use Rattle.utc.specs.Leaps.{is_list_right, seconds}
+use Rattle.utc.specs.Days.{entry_on, is_reading, last_of, length_by, length_of, seconds_on}
+use Rattle.utc.specs.Days.{day_start, tai_by, tai_of}
 use Rattle.utc.specs.Readings.{is_writable, utc_read, utc_written}
 use Rattle.utc.proofs.ThereAndBack.{only_one}
-use Rattle.scales.specs.Answers.{Refuses, Accepts}
-use Rattle.utc.specs.Answers.{WriteRefuses, WritesUtc}
-use Rattle.scales.specs.Answers.{read_number, read_place, read_tick}
-use Rattle.utc.specs.Answers.{utc_written_number, utc_written_place}
+use Rattle.scales.specs.Answers.{Refuses, Accepts, read_number, read_place, read_tick}
+use Rattle.utc.specs.Answers.{WriteRefuses, WritesUtc, utc_written_number, utc_written_place}
 
 -- 1972-01-01 with 10 s, 1972-07-01 with 11 s, and so on to 1977-01-01 with 16 s
 abbrev seventies : List ℤ

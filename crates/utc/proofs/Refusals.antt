@@ -1,4 +1,7 @@
 -- Refusals, each exactly when the page says. Assumes nothing.
+use Rattle.utc.specs.Answers.{UtcWritten, utc_written_number, utc_written_place}
+use Rattle.scales.specs.Answers.{Read, read_number, read_place}
+use Rattle.std.specs.Prelude.{Err, Ok}
 use mathlib.Core.Path.{◌≡◌, refl, ◌∙◌, ap}
 use mathlib.Core.Bool.{Bool, true, false, cond}
 use mathlib.Core.List.{List, [], ◌∷◌}
@@ -7,14 +10,8 @@ use lib.IntN.{ℤ}
 use Rattle.numbers.specs.Tests.{ToldExactly, only, verdict}
 use Rattle.numbers.proofs.Exactly.{numbered, only_told, told_exactly}
 use Rattle.scales.specs.Tick.{is_valid}
-use Rattle.scales.specs.declared.answer.Read.{Read}
-use Rattle.scales.specs.declared.answer.Read.TheVariants as R
-use Rattle.utc.specs.declared.writing.UtcWritten.{UtcWritten}
-use Rattle.utc.specs.declared.writing.UtcWritten.TheVariants as W
 use Rattle.utc.specs.Days.{is_reading, tai_of}
 use Rattle.utc.specs.Readings.{is_writable, utc_refused, utc_of, utc_read, utc_written}
-use Rattle.scales.specs.Answers.{read_number, read_place}
-use Rattle.utc.specs.Answers.{utc_written_number, utc_written_place}
 
 -- '5 a day .. before the list's first day, or ticks negative or at or past the day's end', then '4:
 -- epoch outside the range'
@@ -33,7 +30,7 @@ utc_read_exactly leaps day ticks =
     ∙ by is valid)
   where
     answer : Bool → Bool → Read
-    answer is valid = cond is (cond valid (R.Tick (tai_of leaps day ticks)) (utc_refused 4)) (utc_refused 5)
+    answer is valid = cond is (cond valid (Ok (tai_of leaps day ticks)) (utc_refused 4)) (utc_refused 5)
 
     by : (is valid : Bool) → ◌≡◌ {A = ℕ × ℕ} (cond is (cond valid (0, 0) (4, 0)) (5, 0))
         (read_number (answer is valid), read_place (answer is valid))
@@ -52,7 +49,7 @@ utc_written_exactly leaps tick =
     (only_told (λ n p. (n, p)) (0, 0) 5 0 [] (is_writable leaps tick) ∙ by (is_writable leaps tick))
   where
     answer : Bool → UtcWritten
-    answer is = cond is (W.Utc (utc_of leaps tick)) (W.Refused (record { number = 5; place = 0 }))
+    answer is = cond is (Ok (utc_of leaps tick)) (Err (record { number = 5; place = 0 }))
 
     by : (is : Bool)
         → ◌≡◌ {A = ℕ × ℕ} (cond is (0, 0) (5, 0)) (utc_written_number (answer is), utc_written_place (answer is))

@@ -13,7 +13,8 @@ use Rattle.scales.specs.Answers.{Accepts, read_number, read_tick}
 use Rattle.utc.specs.Answers.{WritesUtc, utc_written_day, utc_written_number, utc_written_ticks}
 use Rattle.utc.proofs.Accepted.{as_read, read_as, written_as}
 use Rattle.utc.proofs.Counted.{day_within, within_written}
-use Rattle.utc.proofs.Within.{Within, forth, is_reading_lem, reading, reading_within, tai_back, tai_from, within_reading}
+use Rattle.utc.proofs.Within.{Within, forth, is_reading_lem, reading, reading_within, tai_back}
+use Rattle.utc.proofs.Within.{tai_from, within_reading}
 
 -- the one UTC of a tick: the written one is a right reading, and no other has that tick
 pub record OneUtc (leaps : List ℤ) (tick : ℤ) : Type 0 where

@@ -13,7 +13,8 @@ use Rattle.numbers.proofs.Differences.{rep₂, rep₃, rep₄, lin}
 use Rattle.numbers.proofs.Machine.{yes_lt, no_lt}
 use Rattle.numbers.proofs.Order.{≤-total}
 use Rattle.utc.specs.Leaps.{is_list_right, list_day}
-use Rattle.utc.specs.Days.{day_ticks, second_ticks, seconds_on, length_by, length_of, day_start, tai_by, tai_of}
+use Rattle.utc.specs.Days.{day_ticks, second_ticks, seconds_on, length_by, length_of, day_start}
+use Rattle.utc.specs.Days.{tai_by, tai_of}
 use Rattle.utc.proofs.Beside.{is_next, up}
 use Rattle.utc.proofs.Rules.{Right, right}
 use Rattle.utc.proofs.Standing.{seconds_moderate, seconds_move}

@@ -1,21 +1,19 @@
 -- A UTC reading as a TAI tick, and a TAI tick written as UTC: 'a Modified Julian Day and ticks
 -- within the day'.
-use Rattle.std.specs.Prelude.{Bool, cond, List, ℕ, ℤ, pos, ◌+ℤ◌, ◌-ℤ◌}
+use Rattle.utc.specs.Answers.{UtcWritten}
+use Rattle.scales.specs.Answers.{Read}
+use Rattle.std.specs.Prelude.{Err, Ok, Bool, cond, List, ℕ, ℤ, pos, ◌+ℤ◌, ◌-ℤ◌}
 use Rattle.std.specs.Int.Signed.{le_z}
 use Rattle.numbers.specs.Rounding.{floor_div}
 use Rattle.scales.specs.Tick.{is_valid}
-use Rattle.scales.specs.declared.answer.Read.{Read}
-use Rattle.scales.specs.declared.answer.Read.TheVariants as R
 use Rattle.utc.specs.declared.writing.Utc.{Utc}
-use Rattle.utc.specs.declared.writing.UtcWritten.{UtcWritten}
-use Rattle.utc.specs.declared.writing.UtcWritten.TheVariants as W
 use Rattle.utc.specs.Leaps.{entries, first_day, seconds, list_day}
 use Rattle.utc.specs.Days.{last_of, day_ticks, is_reading, tai_by, tai_of, day_start}
 
 -- ---- reading
 -- a refusal's place is 0
 abbrev pub utc_refused : ℕ → Read
-utc_refused number = R.Refused (record { number = number; place = 0 })
+utc_refused number = Err (record { number = number; place = 0 })
 
 -- '5 a day .. before the list's first day, or ticks negative or at or past the day's end'; of a
 -- right one '4: epoch outside the range'
@@ -23,7 +21,7 @@ unfoldable pub utc_read : List ℤ → ℤ → ℤ → Read
 utc_read leaps day ticks =
     let tick = tai_of leaps day ticks in
     cond (is_reading leaps day ticks)
-    (cond (is_valid tick) (R.Tick tick) (utc_refused 4))
+    (cond (is_valid tick) (Ok tick) (utc_refused 4))
     (utc_refused 5)
 
 -- ---- writing
@@ -63,5 +61,5 @@ is_writable leaps tick = le_z (day_start leaps (pos list_day)) tick
 unfoldable pub utc_written : List ℤ → ℤ → UtcWritten
 utc_written leaps tick =
     cond (is_writable leaps tick)
-    (W.Utc (utc_of leaps tick))
-    (W.Refused (record { number = 5; place = 0 }))
+    (Ok (utc_of leaps tick))
+    (Err (record { number = 5; place = 0 }))

@@ -5,19 +5,18 @@ ghost use Rattle.utc.specs.Readings.{utc_refused, utc_read};
 
 use crate::entries::{entry_on, seconds_after, seconds_of};
 use crate::tai::{length_by, tai_by};
-use scales::answer::Read;
 use scales::refusal::Refusal;
 use scales::tick::valid;
 
-fn no_tick(number: u32) -> Read
+fn no_tick(number: u32) -> Result<i64, Refusal>
     ensures { result ≡ utc_refused number }
 {
-    Read::Refused(Refusal { number, place: 0 })
+    Err(Refusal { number, place: 0 })
 }
 
 // Reads a UTC reading over a list that is right, which the caller has judged by refusal 7. A day
 // more than 100,000 after 43144 is out of the range, and up to there nothing overflows.
-pub fn read(leaps: &[i64], day: i64, ticks: i64) -> Read
+pub fn read(leaps: &[i64], day: i64, ticks: i64) -> Result<i64, Refusal>
     requires { is_list_right leaps.now ≡ true }
     ensures { result ≡ utc_read leaps.now day ticks }
 {
@@ -37,7 +36,7 @@ pub fn read(leaps: &[i64], day: i64, ticks: i64) -> Read
     }
     let tick = tai_by(seconds, day, ticks);
     if valid(tick) {
-        return Read::Tick(tick);
+        return Ok(tick);
     }
     no_tick(4)
 }

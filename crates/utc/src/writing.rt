@@ -9,17 +9,10 @@ use crate::tai::tai_by;
 use scales::refusal::Refusal;
 
 // 'a Modified Julian Day and ticks within the day'
-#[derive(Clone, Copy)]
+#[derive(Clone, Copy, Debug, PartialEq, Eq)]
 pub struct Utc {
     pub day: i64,
     pub ticks: i64,
-}
-
-// A right reading, or refusal 5.
-#[derive(Clone, Copy)]
-pub enum UtcWritten {
-    Utc(Utc),
-    Refused(Refusal),
 }
 
 // The TAI tick of day 41317, ticks 0.
@@ -49,12 +42,12 @@ fn latest_day(tick: i64) -> i64
 // 7. TAI−UTC moves by less than 127 s, so a tick is on the last day on which it can be, or on the
 // one before.
 #[tactic(auto, using(crate::proofs::Counted::early))]
-pub fn write(leaps: &[i64], tick: i64) -> UtcWritten
+pub fn write(leaps: &[i64], tick: i64) -> Result<Utc, Refusal>
     requires { ToWrite leaps.now tick }
     ensures { result ≡ utc_written leaps.now tick }
 {
     if tick < FIRST_TICK {
-        return UtcWritten::Refused(Refusal {
+        return Err(Refusal {
             number: 5,
             place: 0,
         });
@@ -62,14 +55,14 @@ pub fn write(leaps: &[i64], tick: i64) -> UtcWritten
     let day = latest_day(tick);
     let start = day_start(leaps, day);
     if start <= tick {
-        return UtcWritten::Utc(Utc {
+        return Ok(Utc {
             day,
             ticks: tick - start,
         });
     }
     let before = day - 1;
     let start = day_start(leaps, before);
-    UtcWritten::Utc(Utc {
+    Ok(Utc {
         day: before,
         ticks: tick - start,
     })

@@ -3,23 +3,23 @@ ghost use Rattle.std.specs.Prelude.{◌≡◌};
 ghost use Rattle.walk.specs.Walk.{step_of, walk_between, answer_refused};
 ghost use Rattle.walk.specs.Inner.{Held};
 
-use crate::kept::Kept;
 use crate::step::{to_tdb, to_tt};
+use image::table::Table;
 use linear::steps::{along, back};
-use scales::answer::{Answer, Epoch, Stepped};
-use scales::path::{Edge, LONGEST_PATH, Step, Way, next_step};
+use scales::answer::{Converted, Epoch, Outside};
+use scales::path::{Edge, LONGEST_PATH, Step, next_step};
 use scales::refusal::Refusal;
 use scales::scale::Scale;
 
-fn refused(number: u32, place: u64) -> Answer
+fn refused(number: u32, place: u64) -> Result<Converted, Refusal>
     ensures { result ≡ answer_refused number place }
 {
-    Answer::Refused(Refusal { number, place })
+    Err(Refusal { number, place })
 }
 
 // The step from an epoch of the scale in which it begins. What is kept has been judged and
 // accepted.
-fn take_step(step: Step, epoch: Epoch, kept: Kept, coefficients: &[i64]) -> Stepped
+fn take_step(step: Step, epoch: Epoch, kept: Option<Table>, coefficients: &[i64]) -> Result<Epoch, Outside>
     requires { Held kept coefficients.now }
     ensures { result ≡ step_of kept coefficients.now step epoch.tick }
 {
@@ -37,7 +37,7 @@ fn take_step(step: Step, epoch: Epoch, kept: Kept, coefficients: &[i64]) -> Step
 
 // From epoch to epoch until the path is at its end: 'step by step, 6 before 4'. The coefficients
 // are those of the table that is kept.
-pub fn walk(from: Scale, to: Scale, start: i64, kept: Kept, coefficients: &[i64]) -> Answer
+pub fn walk(from: Scale, to: Scale, start: i64, kept: Option<Table>, coefficients: &[i64]) -> Result<Converted, Refusal>
     requires { Held kept coefficients.now }
     ensures { result ≡ walk_between kept coefficients.now from to start }
 {
@@ -45,24 +45,24 @@ pub fn walk(from: Scale, to: Scale, start: i64, kept: Kept, coefficients: &[i64]
         scale: from,
         tick: start,
     };
-    let mut done: u32 = 0;
-    while done < LONGEST_PATH {
-        let scale = epoch.scale;
-        let Way::By(step) = next_step(scale, to) else {
-            return Answer::Converted(epoch, done);
+    for steps in 0..LONGEST_PATH {
+        let Some(step) = next_step(epoch.scale, to) else {
+            return Ok(Converted { epoch, steps });
         };
         match take_step(step, epoch, kept, coefficients) {
-            Stepped::Reached(next) => {
+            Ok(next) => {
                 epoch = next;
             }
-            Stepped::OutsideTable => {
-                return refused(6, done as u64);
+            Err(Outside::Table) => {
+                return refused(6, u64::from(steps));
             }
-            Stepped::OutsideRange => {
-                return refused(4, done as u64 + 1);
+            Err(Outside::Range) => {
+                return refused(4, u64::from(steps) + 1);
             }
         }
-        done += 1;
     }
-    Answer::Converted(epoch, done)
+    Ok(Converted {
+        epoch,
+        steps: LONGEST_PATH,
+    })
 }

@@ -7,28 +7,26 @@ ghost use Rattle.written.specs.Written.{write_utc_of};
 
 use dates::reading::Reading;
 use desk::conversion::convert_into;
-use scales::answer::Answer;
 use scales::refusal::Refusal;
 use scales::scale::Purpose;
-use utc::writing::{Utc, UtcWritten, write};
+use utc::writing::{Utc, write};
 
-// The written reading and how many steps were walked to its TAI tick, or a refusal.
-#[derive(Clone, Copy)]
-pub enum UtcAnswer {
-    Written(Utc, u32),
-    Refused(Refusal),
+// The written reading, and how many steps were walked to its TAI tick.
+#[derive(Clone, Copy, Debug, PartialEq, Eq)]
+pub struct Written {
+    pub utc: Utc,
+    pub steps: u32,
 }
 
 // Converts a reading of any kind in the scale of the first code, over the table that the bytes
 // hold, and writes what it comes to as UTC over the list of leap seconds; or tells the refusal.
-pub fn write_utc(from: u32, to: u32, reading: Reading, leaps: &[i64], table: &[u8]) -> UtcAnswer
+pub fn write_utc(from: u32, to: u32, reading: Reading, leaps: &[i64], table: &[u8]) -> Result<Written, Refusal>
     ensures { result ≡ write_utc_of from to reading leaps.now table.now }
 {
-    match convert_into(Purpose::Utc, from, to, reading, leaps, table) {
-        Answer::Converted(epoch, steps) => match write(leaps, epoch.tick) {
-            UtcWritten::Utc(utc) => UtcAnswer::Written(utc, steps),
-            UtcWritten::Refused(refusal) => UtcAnswer::Refused(refusal),
-        },
-        Answer::Refused(refusal) => UtcAnswer::Refused(refusal),
-    }
+    let converted = convert_into(Purpose::Utc, from, to, reading, leaps, table)?;
+    let utc = write(leaps, converted.epoch.tick)?;
+    Ok(Written {
+        utc,
+        steps: converted.steps,
+    })
 }

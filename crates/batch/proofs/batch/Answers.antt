@@ -1,4 +1,5 @@
 -- `batch::batch` meets its contract. Assumes nothing.
+use Rattle.std.specs.Prelude.{Ok, Err}
 use mathlib.Core.Path.{◌≡◌, sym, ◌∙◌}
 use borrow.Author.Tests.{eqb-true}
 use mathlib.Core.Bool.{true}
@@ -49,5 +50,5 @@ returns-in-Crossing c =
     has_converted _ _ _ _ _ _ (crossing (goal.at.returns-in-Crossing c).In-Crossing)
     (asked_alone _ _ _ _ (crossing (goal.at.returns-in-Crossing c).In-Crossing) (crossing_sound _ _)) c.batch_crossing.ensures
 
-pub returns-in-Refused : goal.returns-in-Refused
-returns-in-Refused c = has_refused _ _ _ _ _ _ (sym c.asked_of.ensures ∙ c.in-Refused.is)
+pub returns-in-Err : goal.returns-in-Err
+returns-in-Err c = has_refused _ _ _ _ _ _ (sym c.asked_of.ensures ∙ c.in-Err.is)

@@ -23,7 +23,7 @@ pub loop-done-preserved : goal.loop-done-preserved
 loop-done-preserved c = (
   search rules,
   rw (c.end_of-scale.ensures, c.step_all.ensures) (walked_more _ _ _ _ _ c.requires.steps c.requires.accepted _ _ _ _ c.loop-done-test.true
-      (sym c.next_step.ensures ∙ c.in-By.is) c.loop-done.invariant.1),
+      (sym c.next_step.ensures ∙ c.in-Some.is) c.loop-done.invariant.1),
 )
 
 pub shape_of-answers : goal.shape_of-answers

@@ -1,4 +1,5 @@
 -- `granules::look_at` meets its contract. Assumes nothing.
+use Rattle.std.specs.Prelude.{Some}
 use Prim.Native.Nat.{ℕ, ◌≤◌, ◌<◌}
 use Rattle.granule.specs.Asked.{Summable}
 use Rattle.granule.specs.Tests.{plain_sum}
@@ -6,7 +7,6 @@ use Rattle.granule.specs.declared.Units.{Units}
 use Rattle.granules.proofs.Scanning.{own_small}
 use Rattle.granules.specs.Pass.{joined_rank, scan_after, scan_next}
 use Rattle.granules.specs.Tests.{own_rules}
-use Rattle.granules.specs.declared.Next.TheVariants.{Onward}
 use Rattle.granules.specs.declared.Scan.{Scan}
 use Rattle.numbers.specs.Tests.{rank}
 use borrow.Author.Tests.{eq-eqb, ne_eqb, lt-ltb, le-ltb}
@@ -22,12 +22,12 @@ module _ (scan : Scan) (g H own : ℕ) (l : List ℤ) (r : ℕ) (x : Units) (e :
   ranked : r ≡ joined_rank (rank (own_rules H) l) g scan.plain.0 l
   ranked = d ∙ ap (λ (o : ℕ). joined_rank o g scan.plain.0 l) e
 
-  lower : r < scan.rank → Onward (record { rank = r; place = g; plain = x }) ≡ scan_next scan g l H
+  lower : r < scan.rank → Some (record { rank = r; place = g; plain = x }) ≡ scan_next scan g l H
   unfolding scan_next scan_after
   lower h = rw (ne_eqb (rank (own_rules H) l) 0 n, ← ranked, lt-ltb r scan.rank h, ← p)
 
   still : scan.rank ≤ r
-      → Onward (record { rank = scan.rank; place = scan.place; plain = x }) ≡ scan_next scan g l H
+      → Some (record { rank = scan.rank; place = scan.place; plain = x }) ≡ scan_next scan g l H
   unfolding scan_next scan_after
   still h = rw (ne_eqb (rank (own_rules H) l) 0 n, ← ranked, le-ltb r scan.rank h, ← p)
 

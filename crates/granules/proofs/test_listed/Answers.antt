@@ -1,3 +1,4 @@
+use Rattle.std.specs.Prelude.{None}
 use Prim.Native.Nat.{ℕ, ◌+◌, ◌*◌, ◌-◌, ◌≤◌, zero-le}
 use Rattle.granules.proofs.Alike.{alike_same}
 use Rattle.granules.proofs.Scanning.{scanned_none, scanned_next, scanned_lowest, scanned_all}
@@ -76,12 +77,12 @@ look_at-requires c =
           (omega (arith, c.requires.bounds.few.degree));
     }
 
-pub returns-in-Lowest : goal.returns-in-Lowest
+pub returns-in_default : goal.returns-in_default
 unfolding tested_listed
-returns-in-Lowest c =
+returns-in_default c =
     scanned_lowest _ _ c.loop-g.g c.loop-g.scan _ (alike_same (own c.args.coefficients.now c.args.table.degree c.loop-g.g))
     c.loop-g.invariant.1 c.args.table (ap nat_abs (to_z-of_z w64 c.args.table.length (search rules))) c.loop-g-test.true
-    (sym c.look_at.ensures ∙ c.in-Lowest.is) _
+    (sym c.look_at.ensures ∙ c.in_default.is) _
     c.told.ensures
 
 pub loop-g-smaller : goal.loop-g-smaller
@@ -91,7 +92,7 @@ pub loop-g-preserved : goal.loop-g-preserved
 loop-g-preserved c = (
   omega arith,
   scanned_next _ _ c.loop-g.g c.loop-g.scan _ (alike_same (own c.args.coefficients.now c.args.table.degree c.loop-g.g))
-      c.loop-g.invariant.1 _ (sym c.look_at.ensures ∙ c.in-Onward.is),
+      c.loop-g.invariant.1 _ (sym c.look_at.ensures ∙ c.in-Some.is),
 )
 
 pub returns : goal.returns

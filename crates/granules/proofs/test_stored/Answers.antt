@@ -1,3 +1,4 @@
+use Rattle.std.specs.Prelude.{None}
 use Prim.Native.Nat.{zero-le}
 use Rattle.granules.proofs.Alike.{Alike, stored_alike}
 use Rattle.granules.proofs.Scanning.{scanned_none, scanned_next, scanned_lowest, scanned_all}
@@ -45,12 +46,12 @@ slice_bounds-look_at-end c = sym (sixteen (goal.at.slice_bounds-look_at-end c).A
 pub look_at-requires : goal.look_at-requires
 look_at-requires c = record { short = le_of_eq (sixteen (goal.at.look_at-requires c).After-stored-all) }
 
-pub returns-in-Lowest : goal.returns-in-Lowest
+pub returns-in_default : goal.returns-in_default
 unfolding tested_stored
-returns-in-Lowest c =
-    scanned_lowest _ _ c.loop-g.g c.loop-g.scan _ (own (goal.at.returns-in-Lowest c).After-stored-all) c.loop-g.invariant.1 c.args.table
+returns-in_default c =
+    scanned_lowest _ _ c.loop-g.g c.loop-g.scan _ (own (goal.at.returns-in_default c).After-stored-all) c.loop-g.invariant.1 c.args.table
     (ap nat_abs (to_z-of_z w64 c.args.table.length (search rules)))
-    c.loop-g-test.true (sym c.look_at.ensures ∙ c.in-Lowest.is) _ c.told.ensures
+    c.loop-g-test.true (sym c.look_at.ensures ∙ c.in_default.is) _ c.told.ensures
 
 pub loop-g-smaller : goal.loop-g-smaller
 loop-g-smaller c = omega arith
@@ -59,7 +60,7 @@ pub loop-g-preserved : goal.loop-g-preserved
 loop-g-preserved c = (
   omega arith,
   scanned_next _ _ c.loop-g.g c.loop-g.scan _ (own (goal.at.loop-g-preserved c).After-stored-all) c.loop-g.invariant.1 _
-      (sym c.look_at.ensures ∙ c.in-Onward.is),
+      (sym c.look_at.ensures ∙ c.in-Some.is),
 )
 
 pub returns : goal.returns

@@ -1,5 +1,6 @@
 -- `lines::answer_line` meets its contract: what the line is answered with is printed. Assumes
 -- nothing.
+use Rattle.blocks.specs.Answers.{Judged}
 use borrow.Author.Rules.{rules}
 use mathlib.Core.Path.{◌≡◌, subst}
 use mathlib.Core.List.{List}
@@ -9,7 +10,6 @@ use lib.IntN.{ℤ}
 use lib.ListN.{length}
 use mir.Syntax.{w64}
 use mir.ValLaws.{to_z-of_z}
-use Rattle.blocks.specs.declared.answer.Judged.{Judged}
 use Rattle.line.specs.Lines.{line_read}
 use Rattle.printing.specs.Texts.{line_text}
 use Rattle.printing.specs.Buffers.{longest, TextPut}

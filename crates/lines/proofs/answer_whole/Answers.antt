@@ -1,3 +1,4 @@
+use Rattle.blocks.specs.Answers.{Judged}
 use borrow.Author.Tests.{ne_eqb}
 use mathlib.Core.Path.{◌≡◌, refl, sym, ◌∙◌, ap}
 use mathlib.Core.List.{List, [], ◌∷◌, ◌++◌}
@@ -7,11 +8,11 @@ use native.Mathlib.Omega.{arith}
 use lib.IntN.{ℤ}
 use lib.ListN.{length, get_or, take, drop, length-append}
 use lib.Seq.{length-take-le, take-suc, take_all, take-add, drop_at}
-use Rattle.blocks.specs.declared.answer.Judged.{Judged}
 use Rattle.printing.specs.Buffers.{longest, with_text}
 use Rattle.printing.proofs.Filling.{length_kept, then_text}
 use Rattle.line.specs.Lines.{line_read}
-use Rattle.lines.specs.Output.{lines_of, next_line, line_after, output_from, whole_lines, unfinished, printed_for}
+use Rattle.lines.specs.Output.{lines_of, next_line, line_after, output_from, whole_lines}
+use Rattle.lines.specs.Output.{unfinished, printed_for}
 use Rattle.lines.specs.Buffers.{LinesAnswered, Printed}
 use Rattle.lines.proofs.Splits.{whole_short, after_whole, whole_grown, whole_ended}
 use Rattle.lines.proofs.Parts.{put_nothing}

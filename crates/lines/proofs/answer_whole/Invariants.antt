@@ -1,11 +1,11 @@
 -- `lines::answer_whole` meets its contract. The invariant: the whole lines of the bytes passed are
 -- answered and counted. Assumes nothing.
+use Rattle.blocks.specs.Answers.{Judged}
 use mathlib.Core.Path.{◌≡◌}
 use mathlib.Core.List.{List}
 use Prim.Native.Nat.{ℕ, ◌-◌, ◌*◌, ◌≤◌}
 use lib.IntN.{ℤ}
 use lib.ListN.{length, take}
-use Rattle.blocks.specs.declared.answer.Judged.{Judged}
 use Rattle.printing.specs.Buffers.{longest, TextPut}
 use Rattle.lines.specs.Output.{lines_of, line_after, output_from, whole_lines}
 use Rattle.lines.proofs.answer_whole.Given as goal

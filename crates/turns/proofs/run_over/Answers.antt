@@ -9,6 +9,6 @@ run-requires g c =
     record {
       lent =
           rw (c.how_many-many.ensures, c.taken-coefficients.ensures.front)
-          (table_lent _ _ (sym c.judge-judged.ensures ∙ c.in-Accepted.is));
+          (table_lent _ _ (sym c.judge-judged.ensures ∙ c.in-Ok.is));
       large = c.requires;
     }

@@ -1,5 +1,8 @@
 -- `written::write_utc` meets its contract: what is accepted for UTC has a right list and a valid
 -- tick, which is all that writing asks. Assumes nothing.
+use Rattle.std.specs.Prelude.{Ok, Err}
+use Rattle.utc.specs.Answers.{UtcWritten}
+use Rattle.scales.specs.Answers.{converted_to}
 use borrow.Author.Rules.{rules}
 use mathlib.Core.Path.{◌≡◌, refl, sym, ◌∙◌}
 use mathlib.Core.Bool.{Bool, true, false, ◌||◌}
@@ -8,10 +11,8 @@ use Prim.Native.Nat.{ℕ}
 use lib.IntN.{ℤ}
 use mir.Syntax.{w64}
 use mir.ValLaws.{to_z-of_z}
-use Rattle.scales.specs.declared.answer.Answer.TheVariants.{Converted}
 use Rattle.scales.specs.declared.answer.Epoch.{Epoch}
 use Rattle.scales.specs.declared.scale.Purpose.TheVariants.{Utc}
-use Rattle.utc.specs.declared.writing.UtcWritten.{UtcWritten}
 use Rattle.utc.specs.Asked.{ToWrite}
 use Rattle.utc.specs.Readings.{utc_written}
 use Rattle.dates.specs.declared.reading.Reading.{Reading}
@@ -27,7 +28,7 @@ or_true true = refl
 or_true false = refl
 
 to_write : (from to : ℕ) (reading : Reading) (leaps : List ℤ) (bytes : List ℕ) {epoch : Epoch} {n : ℕ}
-    → convert_into Utc from to reading leaps bytes ≡ Converted epoch n → ToWrite leaps epoch.tick
+    → convert_into Utc from to reading leaps bytes ≡ converted_to epoch n → ToWrite leaps epoch.tick
 to_write from to reading leaps bytes e = record {
   right = into_right Utc from to reading leaps bytes e (or_true (is_utc (purpose_of reading)));
   valid = into_valid Utc from to reading leaps bytes e;
@@ -35,27 +36,27 @@ to_write from to reading leaps bytes e = record {
 
 -- and what is written then is the answer
 by_written : (from to : ℕ) (reading : Reading) (leaps : List ℤ) (bytes : List ℕ) {epoch : Epoch} {n : ℕ}
-    {written : UtcWritten} → convert_into Utc from to reading leaps bytes ≡ Converted epoch n
+    {written : UtcWritten} → convert_into Utc from to reading leaps bytes ≡ converted_to epoch n
     → utc_written leaps epoch.tick ≡ written → written_after n written ≡ write_utc_of from to reading leaps bytes
 unfolding write_utc_of
 by_written from to reading leaps bytes e w = rw (e, w)
 
 pub write-requires : goal.write-requires
 write-requires c =
-    rw (to_z-of_z w64 c.in-Converted.epoch.tick (record { sfits = search rules }))
-    (to_write _ _ _ _ _ (sym c.convert_into.ensures ∙ c.in-Converted.is))
+    rw (to_z-of_z w64 c.in-converted_to.epoch.tick (record { sfits = search rules }))
+    (to_write _ _ _ _ _ (sym c.convert_into.ensures ∙ c.in-converted_to.is))
 
 -- the tick, written
-pub returns-in-Utc : goal.returns-in-Utc
-returns-in-Utc c =
-    let wrote = rw (to_z-of_z w64 c.in-Converted.epoch.tick (record { sfits = search rules })) at c.write.ensures in
-    by_written _ _ _ _ _ (sym c.convert_into.ensures ∙ c.in-Converted.is) (sym wrote ∙ c.in-Utc.is)
+pub returns-in-Ok : goal.returns-in-Ok
+returns-in-Ok c =
+    let wrote = rw (to_z-of_z w64 c.in-converted_to.epoch.tick (record { sfits = search rules })) at c.write.ensures in
+    by_written _ _ _ _ _ (sym c.convert_into.ensures ∙ c.in-converted_to.is) (sym wrote ∙ c.in-Ok.is)
 
-pub returns-in-Refused-write : goal.returns-in-Refused-write
-returns-in-Refused-write c =
-    let wrote = rw (to_z-of_z w64 c.in-Converted.epoch.tick (record { sfits = search rules })) at c.write.ensures in
-    by_written _ _ _ _ _ (sym c.convert_into.ensures ∙ c.in-Converted.is) (sym wrote ∙ c.in-Refused-write.is)
+pub returns-in-Err-write : goal.returns-in-Err-write
+returns-in-Err-write c =
+    let wrote = rw (to_z-of_z w64 c.in-converted_to.epoch.tick (record { sfits = search rules })) at c.write.ensures in
+    by_written _ _ _ _ _ (sym c.convert_into.ensures ∙ c.in-converted_to.is) (sym wrote ∙ c.in-Err-write.is)
 
-pub returns-in-Refused : goal.returns-in-Refused
+pub returns-in-Err : goal.returns-in-Err
 unfolding write_utc_of
-returns-in-Refused c = rw (← c.convert_into.ensures, c.in-Refused.is)
+returns-in-Err c = rw (← c.convert_into.ensures, c.in-Err.is)

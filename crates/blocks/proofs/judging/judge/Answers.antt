@@ -1,11 +1,13 @@
 -- `blocks::judging::judge` meets its contract: a test passed at a time, in their order. Assumes
 -- nothing.
+use Rattle.std.specs.Prelude.{Err}
 use Prim.Native.Nat.{ℕ, ◌*◌, ◌≤◌, zero-le}
 use Rattle.granules.specs.Answers.{tested_stored}
 use Rattle.image.proofs.Bounding.{bounds_told}
 use Rattle.blocks.proofs.Telling.{tested_is}
-use Rattle.blocks.proofs.Past.{whole_told, from14, from12, from13, from_first, refused10, past10, refused11, past11}
-use Rattle.blocks.proofs.Past.{past_first, refused13_bound, refused13_blocks, past13, refused12, past12, formed12, search_for}
+use Rattle.blocks.proofs.Past.{whole_told, from14, from12, from13, from_first, refused10, past10}
+use Rattle.blocks.proofs.Past.{refused11, past11, past_first, refused13_bound, refused13_blocks}
+use Rattle.blocks.proofs.Past.{past13, refused12, past12, formed12, search_for}
 use Rattle.numbers.proofs.Verdicts.{one_go}
 use Rattle.image.specs.Bounds.{is_bounded}
 use Rattle.blocks.specs.Answers.{judged_tested}
@@ -18,10 +20,14 @@ use borrow.Author.Count.{below_none}
 use lib.ListN.{length}
 use mathlib.Core.Bool.{true}
 use mathlib.Core.List.{List}
+use Rattle.std.proofs.lemmas.Result.{err_from_is_err_and}
 use mathlib.Core.Path.{◌≡◌, refl, sym, ◌∙◌, ap}
 use native.Mathlib.Omega.{arith}
 use Rattle.blocks.proofs.judging.judge.Goals as goal
-use Rattle.blocks.proofs.judging.judge.Goals.{After-bounded, After-lowest_unformed, Else-blocks-count, Else-not-bounded, Else-not-whole, Else-unchecked-blocks}
+use Rattle.blocks.proofs.judging.judge.Goals.{After-test_stored, After-bounded}
+use Rattle.blocks.proofs.judging.judge.Goals.{After-lowest_unformed, Else-blocks-count}
+use Rattle.blocks.proofs.judging.judge.Goals.{Else-not-bounded, Else-not-whole}
+use Rattle.blocks.proofs.judging.judge.Goals.{Else-unchecked-blocks}
 
 -- what is judged, by the tests of the table in the bytes
 judged_is : (b : List ℕ) → judged_by (table_tests b (table_of b)) (table_of b) ≡ judged b
@@ -122,14 +128,27 @@ test_stored-requires c =
       formed = formed12 c.args.bytes.now c.table_of-table.result _ c.lowest_unformed-unformed.ensures (omega arith) c.if-blocks-count.false;
     }
 
-pub returns : goal.returns
+-- what the tests of the coefficients tell is what the bytes get
+by_granules : (c : After-test_stored) → judged_tested c.table_of-table.result c.test_stored.result ≡ judged c.args.bytes.now
 unfolding tested_stored
-returns c =
-    c.tested.ensures
-    ∙ ap (judged_tested c.table_of-table.result) c.test_stored.ensures
+by_granules c =
+    ap (judged_tested c.table_of-table.result) c.test_stored.ensures
     ∙ tested_is (from14 c.args.bytes.now c.table_of-table.result) c.table_of-table.result
-    ∙ sym (past12 c.args.bytes.now c.table_of-table.result (by12 (goal.at.returns c).Else-blocks-count) _ c.lowest_unformed-unformed.ensures (omega arith))
-    ∙ same_judged (goal.at.returns c).After-bounded
+    ∙ sym (past12 c.args.bytes.now c.table_of-table.result (by12 (goal.at.After-test_stored c).Else-blocks-count) _ c.lowest_unformed-unformed.ensures (omega arith))
+    ∙ same_judged (goal.at.After-test_stored c).After-bounded
+
+pub returns-in_err-test_stored : goal.returns-in_err-test_stored
+unfolding judged_tested
+returns-in_err-test_stored c =
+    let passed_on = err_from_is_err_and c.from_residual.result c.from_residual.ensures.1 in
+    passed_on.1 ∙ ap Err passed_on.2 ∙ sym (ap (judged_tested c.table_of-table.result) c.in_err-test_stored.was)
+    ∙ by_granules (goal.at.returns-in_err-test_stored c).After-test_stored
+
+pub returns : goal.returns
+unfolding judged_tested
+returns c =
+    sym (ap (judged_tested c.table_of-table.result) c.in_ok-test_stored.was)
+    ∙ by_granules (goal.at.returns c).After-test_stored
 
 pub returns-then-unformed-blocks : goal.returns-then-unformed-blocks
 returns-then-unformed-blocks c =

@@ -1,11 +1,14 @@
 -- `blocks::writing::write` meets its contract: it judges before it stores. Assumes nothing.
+use Rattle.std.specs.Prelude.{Ok, Err}
 use Rattle.image.proofs.Bounding.{bounds_told}
-use Rattle.blocks.proofs.Putting.{product, wrote_refused, unfit_list, unfit_buffer, unbounded, by_refused, wrote_done}
+use Rattle.blocks.proofs.Putting.{product, wrote_refused, unfit_list, unfit_buffer, unbounded}
+use Rattle.blocks.proofs.Putting.{by_refused, wrote_done}
 use Rattle.image.specs.Bounds.{is_bounded}
 use Rattle.blocks.specs.Judging.{table_from}
 use Rattle.image.specs.declared.table.Table.{Table}
 use mathlib.Core.Bool.{true}
-use mathlib.Core.Path.{◌≡◌, sym, ◌∙◌}
+use Rattle.std.proofs.lemmas.Result.{err_from_is_err_and}
+use mathlib.Core.Path.{◌≡◌, sym, ◌∙◌, ap}
 use mir.Syntax.{w64}
 use mir.Val.{to_z, of_z}
 use mir.ValLaws.{to_z-of_z}
@@ -59,19 +62,21 @@ put_image-requires c =
           c.if-image-granules.false;
     })
 
-pub returns-in-Refused : goal.returns-in-Refused
-returns-in-Refused c =
-    let same = rw (length_back (goal.at.returns-in-Refused c).Start) at c.test_listed.ensures in
-    wrote_refused (table (goal.at.returns-in-Refused c).Start) c.args.coefficients.now c.args.image.now _
-    (by_refused (table (goal.at.returns-in-Refused c).Start) c.args.coefficients.now c.args.image.now c.if-coefficients-granules.false
-    c.if-image-granules.false (is_bounded_lem (goal.at.returns-in-Refused c).Else-not-bounded) _
-    (sym c.in-Refused.is ∙ same))
+pub returns-in_err-test_listed : goal.returns-in_err-test_listed
+returns-in_err-test_listed c =
+    let passed_on = err_from_is_err_and c.from_residual.result c.from_residual.ensures.1 in
+    let same = rw (length_back (goal.at.returns-in_err-test_listed c).Start) at c.test_listed.ensures in
+    rw (passed_on.1 ∙ ap Err passed_on.2)
+    (wrote_refused (table (goal.at.returns-in_err-test_listed c).Start) c.args.coefficients.now c.args.image.now _
+    (by_refused (table (goal.at.returns-in_err-test_listed c).Start) c.args.coefficients.now c.args.image.now c.if-coefficients-granules.false
+    c.if-image-granules.false (is_bounded_lem (goal.at.returns-in_err-test_listed c).Else-not-bounded) _
+    (sym c.in_err-test_listed.was ∙ same)))
 
-pub returns-in-Passed : goal.returns-in-Passed
-returns-in-Passed c =
-    let same = rw (length_back (goal.at.returns-in-Passed c).Start) at c.test_listed.ensures in
-    let put = rw (length_back (goal.at.returns-in-Passed c).Start) at c.put_image.ensures in
-    rw (length_back (goal.at.returns-in-Passed c).Start)
-    (wrote_done (table (goal.at.returns-in-Passed c).Start) c.args.coefficients.now c.args.image.now c.if-coefficients-granules.false
-    c.if-image-granules.false (is_bounded_lem (goal.at.returns-in-Passed c).Else-not-bounded) _
-    (sym c.in-Passed.is ∙ same) put)
+pub returns : goal.returns
+returns c =
+    let same = rw (length_back (goal.at.returns c).Start) at c.test_listed.ensures in
+    let put = rw (length_back (goal.at.returns c).Start) at c.put_image.ensures in
+    rw (length_back (goal.at.returns c).Start)
+    (wrote_done (table (goal.at.returns c).Start) c.args.coefficients.now c.args.image.now c.if-coefficients-granules.false
+    c.if-image-granules.false (is_bounded_lem (goal.at.returns c).Else-not-bounded) _
+    (sym c.in_ok-test_listed.was ∙ same) put)

@@ -8,10 +8,12 @@ use lib.ListN.{length}
 use Rattle.image.specs.Image.{granule_stored}
 use Rattle.comparing.specs.Changes.{Entry, changes_to}
 use Rattle.comparing.specs.Comparing.{list_put}
-use Rattle.comparing.proofs.Entries.{changes_none, grows, entry_added, length_added, none_added, put_none, put_more, put_length}
+use Rattle.comparing.proofs.Entries.{changes_none, grows, entry_added, length_added, none_added}
+use Rattle.comparing.proofs.Entries.{put_none, put_more, put_length}
 use Rattle.comparing.proofs.Reading.{change_small}
 use Rattle.comparing.proofs.listing.put_changes.Goals as goal
-use Rattle.comparing.proofs.listing.put_changes.Goals.{After-change_of-change, At-loop-g, Start, then-change-gt0, else-change-gt0}
+use Rattle.comparing.proofs.listing.put_changes.Goals.{After-change_of-change, At-loop-g, Start}
+use Rattle.comparing.proofs.listing.put_changes.Goals.{then-change-gt0, else-change-gt0}
 
 -- the granules of the two tables
 abbrev firsts : Start → ℕ → List ℤ

@@ -17,7 +17,8 @@ use Rattle.numbers.specs.Signs.{signed}
 use Rattle.dates.specs.Doubles.{denominator}
 use Rattle.dates.specs.Inner.{Apart}
 use Rattle.dates.proofs.Fields.{no_nan, low_lt, plain_field, taken_apart}
-use Rattle.dates.proofs.Values.{exponent_reach, far_exact, far_exponent, far_positive, readable_wider}
+use Rattle.dates.proofs.Values.{exponent_reach, far_exact, far_exponent, far_positive}
+use Rattle.dates.proofs.Values.{readable_wider}
 use Rattle.dates.proofs.ticks.far_pieces.Goals as goal
 use Rattle.dates.proofs.ticks.far_pieces.Goals.{Start}
 

@@ -2,7 +2,8 @@
 -- nothing.
 use mathlib.Core.Path.{◌≡◌, refl, ap, ◌∙◌}
 use Prim.Native.Nat.{◌*◌, ◌%◌, ◌^◌, ◌<◌, ◌≤◌}
-use native.Mathlib.Nat.{le_trans, lt_of_lt_of_le, mul-le-mul_left, mul-lt-mul_of_pos_right, mul_comm}
+use native.Mathlib.Nat.{le_trans, lt_of_lt_of_le, mul-le-mul_left, mul-lt-mul_of_pos_right}
+use native.Mathlib.Nat.{mul_comm}
 use native.Mathlib.Omega.{arith}
 use lib.Dec.{lit≤, lit<}
 use lib.IntN.{ℤ, pos, nat_abs, ◌*ℤ◌}

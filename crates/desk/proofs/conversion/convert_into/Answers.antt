@@ -1,6 +1,8 @@
 -- `desk::conversion::convert_into` meets its contract: what is left after the refusals is a path,
 -- so that the list is right where a UTC reading goes by it; and where both scales are one the path
 -- has no step. Assumes nothing.
+use Rattle.scales.specs.Answers.{Read, converted_to}
+use Rattle.std.specs.Prelude.{None, Ok, Err}
 use borrow.Author.Rules.{rules}
 use mathlib.Core.Path.{◌≡◌, refl, sym, ◌∙◌}
 use mathlib.Core.Bool.{true}
@@ -9,13 +11,9 @@ use native.Mathlib.Omega.{arith}
 use lib.IntN.{ℤ}
 use mir.Syntax.{w64}
 use mir.ValLaws.{to_z-of_z}
-use Rattle.scales.specs.declared.answer.Answer.TheVariants.{Converted}
-use Rattle.scales.specs.declared.answer.Read.{Read}
-use Rattle.scales.specs.declared.answer.Read.TheVariants as R
 use Rattle.scales.specs.declared.scale.Scale.{Scale}
 use Rattle.scales.specs.Path.{is_one_scale}
 use Rattle.scales.proofs.Paths.{one_scale_here}
-use Rattle.walk.specs.declared.kept.Kept.TheVariants.{Nothing}
 use Rattle.walk.proofs.Walking.{whole_left, at_end}
 use Rattle.desk.specs.declared.asked.Asked.{Asked}
 use Rattle.dates.specs.Readings.{read_of}
@@ -29,10 +27,10 @@ use Rattle.desk.proofs.conversion.convert_into.Goals.{After-asked_over-asked, Af
 
 -- no step
 nowhere : (from to : Scale) (tick : ℤ) → is_one_scale from to ≡ true
-    → Converted (record { scale = from; tick = tick }) 0 ≡ between_of from to (R.Tick tick) Nothing []
+    → converted_to (record { scale = from; tick = tick }) 0 ≡ between_of from to (Ok tick) None []
 nowhere from to tick one =
-    sym (at_end Nothing [] to 0 (record { scale = from; tick = tick }) (omega arith) (one_scale_here from to one))
-    ∙ whole_left Nothing [] to from tick ∙ between_tick from to Nothing [] tick
+    sym (at_end None [] to 0 (record { scale = from; tick = tick }) (omega arith) (one_scale_here from to one))
+    ∙ whole_left None [] to from tick ∙ between_tick from to None [] tick
 
 -- the conversion by what is asked and what was read
 answered : (a : After-asked_over-asked) (is : Asked) (read : Read) → let s = a.args in
@@ -45,8 +43,8 @@ answered a is read e was =
     into s.writes s.from s.to s.reading s.leaps.now s.table.now p.purpose_of.result is read p.purpose_of.ensures
     (sym a.asked_over-asked.ensures ∙ e) was
 
-pub returns-in-Refused : goal.returns-in-Refused
-returns-in-Refused c = answered (goal.at.returns-in-Refused c).After-asked_over-asked _ _ c.in-Refused.is refl
+pub returns-in-Err : goal.returns-in-Err
+returns-in-Err c = answered (goal.at.returns-in-Err c).After-asked_over-asked _ _ c.in-Err.is refl
 
 pub tick_of-requires : goal.tick_of-requires
 tick_of-requires c =
@@ -56,18 +54,18 @@ tick_of-requires c =
 
 pub returns-then-is_one_scale : goal.returns-then-is_one_scale
 returns-then-is_one_scale c =
-    rw (to_z-of_z w64 c.in-Tick.tick (record { sfits = search rules }))
+    rw (to_z-of_z w64 c.in-Ok.tick (record { sfits = search rules }))
     (nowhere _ _ _ (sym c.is_one_scale.ensures ∙ c.if-is_one_scale.true)
-    ∙ answered (goal.at.returns-then-is_one_scale c).After-asked_over-asked _ _ c.in-Plain.is (sym c.in-Tick.is ∙ c.tick_of.ensures))
+    ∙ answered (goal.at.returns-then-is_one_scale c).After-asked_over-asked _ _ c.in-Plain.is (sym c.in-Ok.is ∙ c.tick_of.ensures))
 
 pub returns-after-asked-2 : goal.returns-after-asked-2
 returns-after-asked-2 c =
     let is : c.match-asked-2.asked ≡ c.asked_over-asked.result =
     elim c.match-asked-2.branch [ in-Plain+else-is_one_scale w ↦ w.asked-is ∙ sym w.in-Plain.is | in_default-asked w ↦ w.asked-is ] in
-    rw (to_z-of_z w64 c.in-Tick.tick (record { sfits = search rules })) at c.convert_tick.ensures
-    ∙ answered (goal.at.returns-after-asked-2 c).After-asked_over-asked _ _ (sym is) (sym c.in-Tick.is ∙ c.tick_of.ensures)
+    rw (to_z-of_z w64 c.in-Ok.tick (record { sfits = search rules })) at c.convert_tick.ensures
+    ∙ answered (goal.at.returns-after-asked-2 c).After-asked_over-asked _ _ (sym is) (sym c.in-Ok.is ∙ c.tick_of.ensures)
 
-pub returns-in-Refused-tick_of : goal.returns-in-Refused-tick_of
-returns-in-Refused-tick_of c =
+pub returns-in-Err-tick_of : goal.returns-in-Err-tick_of
+returns-in-Err-tick_of c =
     c.refuse.ensures
-    ∙ answered (goal.at.returns-in-Refused-tick_of c).After-asked_over-asked _ _ refl (sym c.in-Refused-tick_of.is ∙ c.tick_of.ensures)
+    ∙ answered (goal.at.returns-in-Err-tick_of c).After-asked_over-asked _ _ refl (sym c.in-Err-tick_of.is ∙ c.tick_of.ensures)

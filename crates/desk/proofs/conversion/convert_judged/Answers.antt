@@ -1,4 +1,5 @@
 -- `desk::conversion::convert_judged` meets its contract. Assumes nothing.
+use Rattle.std.specs.Prelude.{Err}
 use mathlib.Core.Path.{◌≡◌, sym, ◌∙◌, ap}
 use mir.Syntax.{w64}
 use mir.ValLaws.{to_z-of_z}
@@ -23,5 +24,5 @@ pub returns-in-Crossing : goal.returns-in-Crossing
 returns-in-Crossing c =
     c.crossed.ensures ∙ of_tick _ _ _ _ _ _ _ _ (sym c.asked_of.ensures ∙ c.in-Crossing.is) (was (goal.at.returns-in-Crossing c).After-ranged-read)
 
-pub returns-in-Refused : goal.returns-in-Refused
-returns-in-Refused c = of_tick _ _ _ _ _ _ _ _ (sym c.asked_of.ensures ∙ c.in-Refused.is) (was (goal.at.returns-in-Refused c).After-ranged-read)
+pub returns-in-Err : goal.returns-in-Err
+returns-in-Err c = of_tick _ _ _ _ _ _ _ _ (sym c.asked_of.ensures ∙ c.in-Err.is) (was (goal.at.returns-in-Err c).After-ranged-read)

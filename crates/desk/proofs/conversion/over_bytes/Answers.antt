@@ -1,23 +1,23 @@
 -- `desk::conversion::over_bytes` meets its contract. Assumes nothing.
+use Rattle.std.specs.Prelude.{Ok, Err}
 use mathlib.Core.Path.{◌≡◌, sym, ◌∙◌}
-use Rattle.blocks.specs.declared.answer.Judged.TheVariants as J
 use Rattle.blocks.specs.Judging.{judged}
 use Rattle.opened.proofs.Opening.{coefficients_are}
 use Rattle.desk.proofs.conversion.over_bytes.Goals as goal
-use Rattle.desk.proofs.conversion.over_bytes.Goals.{In-Accepted}
+use Rattle.desk.proofs.conversion.over_bytes.Goals.{In-Ok}
 
 -- the bytes were judged to hold the table
-opened : (c : In-Accepted)
-    → judged c.args.bytes.now ≡ J.Accepted c.in-Accepted.table
-opened c = sym c.judge.ensures ∙ c.in-Accepted.is
+opened : (c : In-Ok)
+    → judged c.args.bytes.now ≡ Ok c.in-Ok.table
+opened c = sym c.judge.ensures ∙ c.in-Ok.is
 
 pub taken_over-requires : goal.taken_over-requires
 taken_over-requires c = record { accepted = opened c }
 
-pub returns-in-Accepted : goal.returns-in-Accepted
-returns-in-Accepted c =
-    rw (opened (goal.at.returns-in-Accepted c).In-Accepted, coefficients_are _ _ (opened (goal.at.returns-in-Accepted c).In-Accepted))
+pub returns-in-Ok : goal.returns-in-Ok
+returns-in-Ok c =
+    rw (opened (goal.at.returns-in-Ok c).In-Ok, coefficients_are _ _ (opened (goal.at.returns-in-Ok c).In-Ok))
     c.taken_over.ensures
 
-pub returns-in-Refused : goal.returns-in-Refused
-returns-in-Refused c = rw (sym c.judge.ensures ∙ c.in-Refused.is)
+pub returns-in-Err : goal.returns-in-Err
+returns-in-Err c = rw (sym c.judge.ensures ∙ c.in-Err.is)

@@ -1,4 +1,5 @@
 -- `desk::conversion::refuse` meets its contract. Assumes nothing.
+use Rattle.std.specs.Prelude.{Err}
 use Rattle.desk.proofs.Asking.{between_refusal}
 use Rattle.desk.proofs.conversion.refuse.Goals as goal
 
@@ -8,5 +9,5 @@ returns-in-Plain c = rw c.in-Plain.is (between_refusal _ _ _ _ _)
 pub returns-in-Crossing : goal.returns-in-Crossing
 returns-in-Crossing c = rw c.in-Crossing.is c.over_bytes.ensures
 
-pub returns-in-Refused : goal.returns-in-Refused
-returns-in-Refused c = rw c.in-Refused.is
+pub returns-in-Err : goal.returns-in-Err
+returns-in-Err c = rw c.in-Err.is

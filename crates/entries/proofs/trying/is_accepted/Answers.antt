@@ -1,4 +1,5 @@
 -- `entries::trying::is_accepted` meets its contract. Assumes nothing.
+use Rattle.std.specs.Prelude.{Ok, Err}
 use mathlib.Core.Path.{◌≡◌, sym, ◌∙◌}
 use mir.Syntax.{w64}
 use mir.ValLaws.{to_z-of_z}
@@ -13,8 +14,8 @@ told : (c : After-between) → c.between.result
 told c =
     rw (c.ranged.ensures, to_z-of_z w64 _ c.ranges.tick) at c.between.ensures ∙ entry_read _ _ _ _ _
 
-pub returns-in-Converted : goal.returns-in-Converted
-returns-in-Converted c = rw (sym (told (goal.at.returns-in-Converted c).After-between) ∙ c.in-Converted.is)
+pub returns-in-Ok : goal.returns-in-Ok
+returns-in-Ok c = rw (sym (told (goal.at.returns-in-Ok c).After-between) ∙ c.in-Ok.is)
 
-pub returns-in-Refused : goal.returns-in-Refused
-returns-in-Refused c = rw (sym (told (goal.at.returns-in-Refused c).After-between) ∙ c.in-Refused.is)
+pub returns-in-Err : goal.returns-in-Err
+returns-in-Err c = rw (sym (told (goal.at.returns-in-Err c).After-between) ∙ c.in-Err.is)

@@ -1,3 +1,4 @@
+use Rattle.std.specs.Prelude.{Ok, Err}
 use mathlib.Core.Path.{◌≡◌, refl, sym, ◌∙◌, ap}
 use Prim.Native.Nat.{zero-le}
 use borrow.Author.Rules.{rules}
@@ -5,7 +6,6 @@ use lib.IntN.{pos}
 use lib.ListN.{get_or}
 use mir.Syntax.{w64}
 use mir.ValLaws.{to_z-of_z}
-use Rattle.entries.specs.declared.batched.Batched.TheVariants.{Converted}
 use Rattle.entries.specs.Entries.{entry_of}
 use Rattle.entries.proofs.Loops.{accepted_goes_on, refused_stops, none_left, entry_read}
 use Rattle.entries.proofs.trying.tried_each.Goals as goal
@@ -26,17 +26,17 @@ module _ (c : After-between) where
       rw (c.ranged.ensures, to_z-of_z w64 (get_or start.args.ticks.now c.loop-index.index (pos 0)) (record { sfits = search rules })) at c.between.ensures
       ∙ entry_read _ _ _ _ _
 
-pub returns-in-Refused : goal.returns-in-Refused
-returns-in-Refused c =
+pub returns-in-Err : goal.returns-in-Err
+returns-in-Err c =
     sym (c.loop-index.invariant.1
-    ∙ refused_stops _ _ _ _ _ c.loop-index-test.true (sym (entry_is (goal.at.returns-in-Refused c).After-between) ∙ c.in-Refused.is))
+    ∙ refused_stops _ _ _ _ _ c.loop-index-test.true (sym (entry_is (goal.at.returns-in-Err c).After-between) ∙ c.in-Err.is))
 
 pub loop-index-preserved : goal.loop-index-preserved
 loop-index-preserved c = (
   search rules,
   c.loop-index.invariant.1
-      ∙ accepted_goes_on _ _ _ _ _ _ c.loop-index-test.true (sym (entry_is (goal.at.loop-index-preserved c).After-between) ∙ c.in-Converted.is),
+      ∙ accepted_goes_on _ _ _ _ _ _ c.loop-index-test.true (sym (entry_is (goal.at.loop-index-preserved c).After-between) ∙ c.in-Ok.is),
 )
 
 pub returns : goal.returns
-returns c = sym (c.loop-index.invariant.1 ∙ none_left _ _ _ _ c.loop-index-test.false ∙ ap Converted (sym c.steps_between.ensures))
+returns c = sym (c.loop-index.invariant.1 ∙ none_left _ _ _ _ c.loop-index-test.false ∙ ap Ok (sym c.steps_between.ensures))

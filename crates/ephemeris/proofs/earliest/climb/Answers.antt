@@ -7,7 +7,8 @@ use Rattle.ephemeris.specs.Table.{last_place, tdb_at, earliest_place}
 use Rattle.ephemeris.proofs.Bounds.{last_small}
 use Rattle.ephemeris.proofs.Search.{earliest_inside, earliest_least, earliest_later}
 use Rattle.ephemeris.proofs.earliest.climb.Goals as goal
-use Rattle.ephemeris.proofs.earliest.climb.Goals.{After-tdb_before, Else-not-tdb_before, In-loop-place}
+use Rattle.ephemeris.proofs.earliest.climb.Goals.{After-tdb_before, Else-not-tdb_before}
+use Rattle.ephemeris.proofs.earliest.climb.Goals.{In-loop-place}
 
 -- the place in a turn, and the test there
 inside : (c : In-loop-place) → c.loop-place.place < last_place c.args.table

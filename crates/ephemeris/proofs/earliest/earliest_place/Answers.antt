@@ -9,7 +9,8 @@ use Rattle.ephemeris.specs.Asked.{held_inside, FromHere}
 use Rattle.ephemeris.proofs.Granules.{delay_bounded}
 use Rattle.ephemeris.proofs.Closing.{near_first, near_next, near_fixed, near_last}
 use Rattle.ephemeris.proofs.earliest.earliest_place.Goals as goal
-use Rattle.ephemeris.proofs.earliest.earliest_place.Goals.{After-delay_at-delay, After-loop-turns, After-pointed-next}
+use Rattle.ephemeris.proofs.earliest.earliest_place.Goals.{After-delay_at-delay, After-loop-turns}
+use Rattle.ephemeris.proofs.earliest.earliest_place.Goals.{After-pointed-next}
 
 -- D at the place, and what it points to
 delay_is : (c : After-delay_at-delay) → read c.delay_at-delay.result

@@ -1,18 +1,19 @@
 -- `filling::steps::tick_reached` meets its contract. Assumes nothing.
+use Rattle.std.specs.Prelude.{Ok, Err}
 use borrow.Author.Rules.{rules}
 use mir.Syntax.{w64}
 use mir.ValLaws.{to_z-of_z}
 use Rattle.scales.specs.Answers.{stepped_tick}
 use Rattle.filling.proofs.steps.tick_reached.Goals as goal
 
-pub returns-in-Reached : goal.returns-in-Reached
+pub returns-in-Ok : goal.returns-in-Ok
 unfolding stepped_tick
-returns-in-Reached c = rw (c.in-Reached.is, to_z-of_z w64 c.in-Reached.epoch.tick (record { sfits = search rules }))
+returns-in-Ok c = rw (c.in-Ok.is, to_z-of_z w64 c.in-Ok.epoch.tick (record { sfits = search rules }))
 
-pub returns-in-OutsideTable : goal.returns-in-OutsideTable
+pub returns-in-Err : goal.returns-in-Err
 unfolding stepped_tick
-returns-in-OutsideTable c = rw c.in-OutsideTable.is
+returns-in-Err c = rw c.in-Err.is
 
-pub returns-in-OutsideRange : goal.returns-in-OutsideRange
+pub returns-in-Err : goal.returns-in-Err
 unfolding stepped_tick
-returns-in-OutsideRange c = rw c.in-OutsideRange.is
+returns-in-Err c = rw c.in-Err.is

@@ -1,8 +1,9 @@
 -- `hosts::answers::done_answer` meets its contract. Assumes nothing.
+use Rattle.std.specs.Prelude.{Ok, Err}
 use Rattle.hosts.proofs.answers.done_answer.Goals as goal
 
-pub returns-in-Accepted : goal.returns-in-Accepted
-returns-in-Accepted c = rw c.in-Accepted.is
+pub returns-in-Ok : goal.returns-in-Ok
+returns-in-Ok c = rw c.in-Ok.is
 
-pub returns-in-Refused : goal.returns-in-Refused
-returns-in-Refused c = rw c.in-Refused.is c.refused_by.ensures
+pub returns-in-Err : goal.returns-in-Err
+returns-in-Err c = rw c.in-Err.is c.refused_by.ensures

@@ -1,8 +1,9 @@
 -- `hosts::date::date_answer` meets its contract. Assumes nothing.
+use Rattle.std.specs.Prelude.{Ok, Err}
 use Rattle.hosts.proofs.date.date_answer.Goals as goal
 
-pub returns-in-Date : goal.returns-in-Date
-returns-in-Date c = rw c.in-Date.is
+pub returns-in-Ok : goal.returns-in-Ok
+returns-in-Ok c = rw c.in-Ok.is
 
-pub returns-in-Refused : goal.returns-in-Refused
-returns-in-Refused c = rw c.in-Refused.is
+pub returns-in-Err : goal.returns-in-Err
+returns-in-Err c = rw c.in-Err.is

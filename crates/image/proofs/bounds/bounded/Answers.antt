@@ -1,6 +1,7 @@
 -- `image::bounds::bounded` meets its contract: each way out is one bound broken, the bounds before
 -- it kept. Assumes nothing.
-use Rattle.image.proofs.Bounding.{high_degree, too_short, too_long, none, too_many, start_outside, end_told, span_fits, end_fits}
+use Rattle.image.proofs.Bounding.{high_degree, too_short, too_long, none, too_many, start_outside}
+use Rattle.image.proofs.Bounding.{end_told, span_fits, end_fits}
 use Rattle.granule.specs.Bounds.{shortest_length, longest_length}
 use Rattle.image.specs.declared.table.Table.{Table}
 use Rattle.numbers.proofs.Machine.{lt_no}
@@ -15,7 +16,9 @@ use mir.Val.{SFits, to_z, of_z}
 use mir.ValLaws.{to_z-of_z, to_z_pos}
 use native.Mathlib.Omega.{arith}
 use Rattle.image.proofs.bounds.bounded.Goals as goal
-use Rattle.image.proofs.bounds.bounded.Goals.{Else-length-gt-LONGEST_LENGTH, Else-length-lt-SHORTEST_LENGTH, Else-not-valid, Else-table-gt-MOST_DEGREE}
+use Rattle.image.proofs.bounds.bounded.Goals.{Else-length-gt-LONGEST_LENGTH}
+use Rattle.image.proofs.bounds.bounded.Goals.{Else-length-lt-SHORTEST_LENGTH, Else-not-valid}
+use Rattle.image.proofs.bounds.bounded.Goals.{Else-table-gt-MOST_DEGREE}
 use Rattle.image.proofs.bounds.bounded.Goals.{Else-table-gt-MOST_GRANULES}
 
 abbrev table1 : Else-table-gt-MOST_DEGREE → Table

@@ -7,7 +7,8 @@ use mathlib.Core.Bool.{Bool, true, false}
 use mathlib.Core.Path.{◌≡◌, sym, ◌∙◌}
 use native.Mathlib.Omega.{arith}
 use Rattle.image.proofs.put.body_byte.Goals as goal
-use Rattle.image.proofs.put.body_byte.Goals.{After-is_free, Else-is_free, Else-k-eq0, Then-is_free, Then-k-eq0}
+use Rattle.image.proofs.put.body_byte.Goals.{After-is_free, Else-is_free, Else-k-eq0, Then-is_free}
+use Rattle.image.proofs.put.body_byte.Goals.{Then-k-eq0}
 
 number : (c : Then-k-eq0) → is_number c.args.j ≡ true
 number c =

@@ -14,7 +14,8 @@ use Rattle.line.specs.Numbers.{all_digits, value_of, fitting, digits_number}
 use Rattle.line.specs.Scan.{digits_of, field, capped, run_from, found_at, digits_at}
 use Rattle.line.specs.declared.number.Run.{Run}
 use Rattle.line.specs.declared.number.Scanned.TheVariants.{Wrong}
-use Rattle.line.proofs.Runs.{run_digits, run_ends, run_space, run_spoilt, field_or, none_spoilt, none_short, none_long, some_digits}
+use Rattle.line.proofs.Runs.{run_digits, run_ends, run_space, run_spoilt, field_or, none_spoilt}
+use Rattle.line.proofs.Runs.{none_short, none_long, some_digits}
 use Rattle.line.proofs.Fitting.{cap_fits}
 use Rattle.line.proofs.number.digits_number.Goals as goal
 use Rattle.line.proofs.number.digits_number.Goals.{then-end-text+else-text-end-ne32, else-end-text}

@@ -14,7 +14,8 @@ use Rattle.line.specs.Numbers.{fitting}
 use Rattle.line.specs.Scan.{found_at}
 use Rattle.line.specs.declared.number.Scanned.{Scanned}
 use Rattle.line.specs.declared.number.Scanned.TheVariants.{Number}
-use Rattle.line.proofs.Fitting.{positive_fits, positive_far, negative_fits, negative_zero, negative_far}
+use Rattle.line.proofs.Fitting.{positive_fits, positive_far, negative_fits, negative_zero}
+use Rattle.line.proofs.Fitting.{negative_far}
 use Rattle.line.proofs.number.with_sign.Goals as goal
 
 -- the answer for a sign that a test has shown

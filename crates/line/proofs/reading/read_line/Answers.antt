@@ -1,5 +1,6 @@
 -- `line::reading::read_line` meets its contract: each way out is one of the cases of three fields,
 -- found one after the other. Assumes nothing.
+use Rattle.line.specs.Answers.{numbers_read}
 use mathlib.Core.Path.{◌≡◌, sym, ◌∙◌, ap}
 use mathlib.Core.List.{List, ◌∷◌}
 use mathlib.Core.Option.{Option, some}
@@ -12,11 +13,12 @@ use mir.ValLaws.{to_z-of_z}
 use Rattle.line.specs.Lines.{three_numbers, not_understood, line_read}
 use Rattle.line.specs.Scan.{number_scanned}
 use Rattle.line.specs.declared.number.Scanned.TheVariants.{Number, Wrong}
-use Rattle.line.specs.declared.reading.Line.TheVariants.{Numbers}
-use Rattle.line.proofs.Splitting.{numbers_from, one_more, wrong_at, number_more, number_last, short_line, long_line}
+use Rattle.line.proofs.Splitting.{numbers_from, one_more, wrong_at, number_more, number_last}
+use Rattle.line.proofs.Splitting.{short_line, long_line}
 use borrow.Author.Rules.{rules}
 use Rattle.line.proofs.reading.read_line.Goals as goal
-use Rattle.line.proofs.reading.read_line.Goals.{In-Number, In-Number-number_from, In-Number-number_from-2, Start}
+use Rattle.line.proofs.reading.read_line.Goals.{In-Number, In-Number-number_from}
+use Rattle.line.proofs.reading.read_line.Goals.{In-Number-number_from-2, Start}
 
 -- what is known once one, two and three numbers are found
 record First (text : List ℕ) : Type 0 where
@@ -82,7 +84,7 @@ module _ (text : List ℕ) (line : ℕ) where
     inside₂ : all.two.end + 1 ≤ length text
     inside₂ = omega (arith, all.more)
 
-    all_three : length text ≤ all.end → line_read text line ≡ Numbers all.two.one.from all.two.to all.tick
+    all_three : length text ≤ all.end → line_read text line ≡ numbers_read all.two.one.from all.two.to all.tick
     all_three h =
         line_is all.two.one.short _
         (after_second all.two all.more _ (number_last text (all.two.end + 1) inside₂ all.tick all.end all.found h))

@@ -17,7 +17,8 @@ use Rattle.printing.specs.Texts.{decimal, integer_text}
 use Rattle.printing.specs.Buffers.{Room, TextPut}
 use Rattle.printing.proofs.Filling.{put_byte, then_text}
 use Rattle.printing.proofs.decimal.put_integer.Goals as goal
-use Rattle.printing.proofs.decimal.put_integer.Goals.{After-size_below_zero, Else-z-lt0, Start, Then-z-lt0}
+use Rattle.printing.proofs.decimal.put_integer.Goals.{After-size_below_zero, Else-z-lt0, Start}
+use Rattle.printing.proofs.decimal.put_integer.Goals.{Then-z-lt0}
 
 negative_text : (z : ℤ) → z <ℤ pos 0 → integer_text z ≡ 45 ∷ decimal (nat_abs z)
 unfolding integer_text

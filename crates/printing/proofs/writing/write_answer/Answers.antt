@@ -14,7 +14,8 @@ use Rattle.printing.specs.Buffers.{Room, TextPut, longest}
 use Rattle.printing.proofs.Filling.{length_kept, place_inside, then_text, then_byte, then_room}
 use Rattle.printing.proofs.Lengths.{integer_length, small_length, answer_length}
 use Rattle.printing.proofs.writing.write_answer.Goals as goal
-use Rattle.printing.proofs.writing.write_answer.Goals.{After-put_integer-first, After-put_integer-second, Start}
+use Rattle.printing.proofs.writing.write_answer.Goals.{After-put_integer-first}
+use Rattle.printing.proofs.writing.write_answer.Goals.{After-put_integer-second, Start}
 
 -- what is given: a buffer and a place with room for the longest line, and numbers of the
 -- parameters' types

@@ -1,16 +1,17 @@
 -- `printing::writing::write_line` meets its contract. Assumes nothing.
+use Rattle.std.specs.Prelude.{Ok, Err}
 use mir.Syntax.{w64}
 use mir.ValLaws.{to_z-of_z}
 use borrow.Author.Rules.{rules}
 use Rattle.printing.proofs.writing.write_line.Goals as goal
 
-pub returns-in-Converted : goal.returns-in-Converted
-returns-in-Converted c =
+pub returns-in-Ok : goal.returns-in-Ok
+returns-in-Ok c =
     rw (
-      c.in-Converted.is,
+      c.in-Ok.is,
       ← to_z-of_z w64 c.args.to c.ranges.to,
-      ← to_z-of_z w64 c.in-Converted.epoch.tick (search rules),
+      ← to_z-of_z w64 c.in-Ok.epoch.tick (search rules),
     ) c.write_answer.ensures
 
-pub returns-in-Refused : goal.returns-in-Refused
-returns-in-Refused c = rw c.in-Refused.is c.write_refused.ensures
+pub returns-in-Err : goal.returns-in-Err
+returns-in-Err c = rw c.in-Err.is c.write_refused.ensures

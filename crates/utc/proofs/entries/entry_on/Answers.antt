@@ -11,7 +11,8 @@ use Rattle.utc.proofs.Rules.{Right, before_later, right}
 use Rattle.utc.proofs.Standing.{at_entry}
 use Rattle.utc.proofs.entries.entry_on.Invariants.{Halved}
 use Rattle.utc.proofs.entries.entry_on.Goals as goal
-use Rattle.utc.proofs.entries.entry_on.Goals.{After-first_day, Start, else-first_day-day, then-first_day-day}
+use Rattle.utc.proofs.entries.entry_on.Goals.{After-first_day, Start, else-first_day-day}
+use Rattle.utc.proofs.entries.entry_on.Goals.{then-first_day-day}
 
 -- ---- a turn
 half_few : (n k : ℕ) → 0 < k → n ≤ 2 ^ k → n - n / 2 ≤ 2 ^ (k - 1)

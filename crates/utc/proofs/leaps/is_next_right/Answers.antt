@@ -9,7 +9,8 @@ use lib.Signed.{lt_z}
 use Rattle.numbers.proofs.Machine.{read, read_is, not_lt}
 use Rattle.utc.specs.Leaps.{entries, first_day, seconds, is_next_right}
 use Rattle.utc.proofs.leaps.is_next_right.Goals as goal
-use Rattle.utc.proofs.leaps.is_next_right.Goals.{After-first_day, After-first_day-2, After-seconds_of, After-seconds_of-2}
+use Rattle.utc.proofs.leaps.is_next_right.Goals.{After-first_day, After-first_day-2}
+use Rattle.utc.proofs.leaps.is_next_right.Goals.{After-seconds_of, After-seconds_of-2}
 
 pub first_day-requires : goal.first_day-requires
 first_day-requires c = let h = c.requires.next in omega arith

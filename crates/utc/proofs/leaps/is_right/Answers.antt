@@ -14,11 +14,14 @@ use Rattle.numbers.proofs.Differences.{rep, rep₂, sizes}
 use Rattle.numbers.proofs.Flags.{and_right, both}
 use Rattle.numbers.proofs.Places.{every_not}
 use Rattle.utc.specs.Asked.{Followed}
-use Rattle.utc.specs.Leaps.{entries, first_day, seconds, is_start_right, is_count_right, is_next_right, is_list_right, most_entries}
+use Rattle.utc.specs.Leaps.{entries, first_day, seconds, is_start_right, is_count_right}
+use Rattle.utc.specs.Leaps.{is_next_right, is_list_right, most_entries}
 use Rattle.utc.proofs.Rules.{all_right, starts}
 use Rattle.utc.proofs.leaps.is_right.Invariants.{Judged}
 use Rattle.utc.proofs.leaps.is_right.Goals as goal
-use Rattle.utc.proofs.leaps.is_right.Goals.{After-is_start_right, At-loop-entry, Else-not-is_next_right, Else-not-is_start_right, In-loop-entry}
+use Rattle.utc.proofs.leaps.is_right.Goals.{After-is_start_right, At-loop-entry}
+use Rattle.utc.proofs.leaps.is_right.Goals.{Else-not-is_next_right, Else-not-is_start_right}
+use Rattle.utc.proofs.leaps.is_right.Goals.{In-loop-entry}
 
 -- what each test says of the whole
 module _ (leaps : List ℤ) where

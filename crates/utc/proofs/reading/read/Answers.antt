@@ -1,5 +1,6 @@
 -- `utc::reading::read` meets its contract: each test is one of the definition's, and a day more
 -- than 100,000 after 43144 is out of the range. Assumes nothing.
+use Rattle.std.specs.Prelude.{Ok}
 use mathlib.Core.Path.{◌≡◌, sym, ◌∙◌, ap}
 use mathlib.Core.Bool.{true, false, ◌&&◌}
 use mathlib.Core.List.{List}
@@ -11,7 +12,6 @@ use Rattle.numbers.proofs.Differences.{rep, rep₃, lin}
 use Rattle.numbers.proofs.Flags.{and_right}
 use Rattle.numbers.proofs.Machine.{le_yes, lt_no, lt_yes, no_le, no_lt, read, read_is}
 use Rattle.scales.specs.Tick.{furthest, is_valid}
-use Rattle.scales.specs.declared.answer.Read.TheVariants as R
 use Rattle.utc.specs.Leaps.{list_day, seconds}
 use Rattle.utc.specs.Days.{entry_on, is_reading, length_of, seconds_on, tai_by, tai_of}
 use Rattle.utc.specs.Readings.{utc_refused, utc_read}
@@ -21,8 +21,10 @@ use Rattle.utc.proofs.Rules.{Moderate, moderate_size, right}
 use Rattle.utc.proofs.Standing.{entry_at, seconds_moderate}
 use Rattle.utc.proofs.Within.{Reading, is_reading_lem, reading_size}
 use Rattle.utc.proofs.reading.read.Goals as goal
-use Rattle.utc.proofs.reading.read.Goals.{After-entry_on-entry, After-length_by, After-seconds_of-seconds, After-tai_by-tick, Else-day-lt41317}
-use Rattle.utc.proofs.reading.read.Goals.{Else-ticks-length_by, Else-ticks-lt0, Start}
+use Rattle.utc.proofs.reading.read.Goals.{After-entry_on-entry, After-length_by}
+use Rattle.utc.proofs.reading.read.Goals.{After-seconds_of-seconds, After-tai_by-tick}
+use Rattle.utc.proofs.reading.read.Goals.{Else-day-lt41317, Else-ticks-length_by, Else-ticks-lt0}
+use Rattle.utc.proofs.reading.read.Goals.{Start}
 
 -- a day beyond which every tick is out of the range, and up to which the formula is safe
 beyond : (seconds day ticks : ℤ) → neg_ℤ (pos 53) ≤ℤ seconds → pos 0 ≤ℤ ticks → pos 143144 <ℤ day
@@ -62,7 +64,7 @@ module _ (leaps : List ℤ) (day ticks : ℤ) where
         let no : is_valid t ≡ false = and_right (le_z (neg_ℤ (pos furthest)) t) (no_le t (pos furthest) past) in
         rw (yes, no)
 
-    ranged : is_valid (tai_of leaps day ticks) ≡ true → R.Tick (tai_of leaps day ticks) ≡ utc_read leaps day ticks
+    ranged : is_valid (tai_of leaps day ticks) ≡ true → Ok (tai_of leaps day ticks) ≡ utc_read leaps day ticks
     unfolding utc_read
     ranged v = let yes = is_reading_lem h in rw (yes, v)
 

@@ -23,7 +23,9 @@ use Rattle.utc.proofs.Fitting.{le_no}
 use Rattle.utc.proofs.Latest.{before_near, before_within, latest_near, latest_within}
 use Rattle.utc.proofs.Within.{Within, reading_size, within_reading}
 use Rattle.utc.proofs.writing.write.Goals as goal
-use Rattle.utc.proofs.writing.write.Goals.{After-day_start-start, After-day_start-start-2, After-latest_day-day, Else-start-tick, Start, Then-start-tick}
+use Rattle.utc.proofs.writing.write.Goals.{After-day_start-start, After-day_start-start-2}
+use Rattle.utc.proofs.writing.write.Goals.{After-latest_day-day, Else-start-tick, Start}
+use Rattle.utc.proofs.writing.write.Goals.{Then-start-tick}
 
 ticks_fit : (leaps : List ℤ) (tick day : ℤ) → is_list_right leaps ≡ true → Within leaps tick day
     → SFits w64 (tick -ℤ day_start leaps day)

@@ -5,7 +5,7 @@ use Rattle.numbers.proofs.Machine.{read_is}
 use Rattle.walk.proofs.step.to_tt.Goals as goal
 
 pub to_tt-requires : goal.to_tt-requires
-to_tt-requires c = c.requires.accepted _ c.in-Table.is
+to_tt-requires c = c.requires.accepted _ c.in-Some.is
 
-pub returns-in-Table : goal.returns-in-Table
-returns-in-Table c = rw c.in-Table.is (rw (read_is c.args.epoch.tick (search rules)) at c.to_tt.ensures)
+pub returns-in-Some : goal.returns-in-Some
+returns-in-Some c = rw c.in-Some.is (rw (read_is c.args.epoch.tick (search rules)) at c.to_tt.ensures)

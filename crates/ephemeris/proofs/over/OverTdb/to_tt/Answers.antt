@@ -1,11 +1,12 @@
 -- `ephemeris::over::OverTdb::to_tt` meets its contract. Assumes nothing.
+use Rattle.scales.specs.declared.answer.Outside.TheVariants as Outside
+use Rattle.std.specs.Prelude.{Err, Ok}
 use borrow.Author.Rules.{rules}
 use mathlib.Core.Path.{◌≡◌, sym, ◌∙◌, ap}
 use mathlib.Core.Bool.{true, false}
 use mathlib.Core.List.{List}
 use lib.IntN.{ℤ}
 use Rattle.numbers.proofs.Machine.{read_is}
-use Rattle.scales.specs.declared.answer.Stepped.TheVariants.{Reached, OutsideTable}
 use Rattle.scales.specs.declared.scale.Scale.TheVariants.{Tt}
 use Rattle.image.specs.declared.table.Table.{Table}
 use Rattle.ephemeris.specs.Table.{tick_at, earliest_place, tt_of, is_covered}
@@ -16,11 +17,11 @@ use Rattle.ephemeris.proofs.over.OverTdb.to_tt.Goals as goal
 
 reached : (T : Table) (cs : List ℤ) (asked tick : ℤ) → is_covered T cs asked ≡ true
     → tick ≡ tick_at T (earliest_place T cs asked)
-    → Reached (record { scale = Tt; tick = tick }) ≡ tt_step T cs asked
+    → Ok (record { scale = Tt; tick = tick }) ≡ tt_step T cs asked
 unfolding tt_step tt_of
 reached T cs asked tick covered e = rw (covered, e)
 
-outside : (T : Table) (cs : List ℤ) (asked : ℤ) → is_covered T cs asked ≡ false → OutsideTable ≡ tt_step T cs asked
+outside : (T : Table) (cs : List ℤ) (asked : ℤ) → is_covered T cs asked ≡ false → (Err Outside.Table) ≡ tt_step T cs asked
 unfolding tt_step
 outside T cs asked left = rw left
 

@@ -1,4 +1,6 @@
 -- `ephemeris::over::OverTt::to_tdb` meets its contract. Assumes nothing.
+use Rattle.scales.specs.declared.answer.Outside.TheVariants as Outside
+use Rattle.std.specs.Prelude.{Err}
 use borrow.Author.Rules.{rules}
 use mathlib.Core.Path.{◌≡◌, sym, ◌∙◌, ap}
 use mathlib.Core.Bool.{true, false}
@@ -6,7 +8,6 @@ use mathlib.Core.List.{List}
 use lib.IntN.{ℤ}
 use Rattle.numbers.proofs.Machine.{read_is}
 use Rattle.scales.specs.Answers.{kept_in}
-use Rattle.scales.specs.declared.answer.Stepped.TheVariants.{OutsideTable}
 use Rattle.scales.specs.declared.scale.Scale.TheVariants.{Tdb}
 use Rattle.image.specs.declared.table.Table.{Table}
 use Rattle.ephemeris.specs.Table.{is_inside, tdb_of, tdb_at}
@@ -15,7 +16,7 @@ use Rattle.ephemeris.proofs.Ticks.{inside_both, placed, tdb_of_lem}
 use Rattle.ephemeris.proofs.over.OverTt.to_tdb.Goals as goal
 use Rattle.ephemeris.proofs.over.OverTt.to_tdb.Goals.{After-tdb_at-tdb, Else-not-inside}
 
-outside : (T : Table) (cs : List ℤ) (t : ℤ) → is_inside T t ≡ false → OutsideTable ≡ tdb_step T cs t
+outside : (T : Table) (cs : List ℤ) (t : ℤ) → is_inside T t ≡ false → (Err Outside.Table) ≡ tdb_step T cs t
 unfolding tdb_step
 outside T cs t out = rw out
 
