@@ -3,7 +3,7 @@
 use Rattle.scales.specs.Answers.{Read, Answer}
 use Rattle.blocks.specs.Answers.{Judged}
 use Rattle.image.specs.declared.table.Table.{Table}
-use Rattle.std.specs.Prelude.{Err, None, Ok, Option}
+use Rattle.std.specs.Prelude.{Err, None, Ok, Option, Result}
 use mathlib.Core.Path.{◌≡◌, refl, sym, ◌∙◌, ap}
 use mathlib.Core.Bool.{Bool, true, false, cond, ◌&&◌}
 use mathlib.Core.List.{List, [], ◌∷◌, ◌++◌}
@@ -37,7 +37,7 @@ module _ (purpose : Purpose) (code place : ℕ) where
   code_refused refusal e = by (is_code purpose code) e
     where
       by : (t : Bool)
-          → cond t (Ok (named code)) (Err (record { number = 1; place = place })) ≡ Err refusal
+          → cond {A = Result Scale Refusal} t (Ok (named code)) (Err (record { number = 1; place = place })) ≡ Err refusal
           → (t ≡ false) × (refusal ≡ record { number = 1; place = place })
       by true e = let z : ◌≡◌ {A = ℕ} 0 1 = cc in let no : ⊥ = omega arith in absurd no
       by false e = (refl, cc)
@@ -46,7 +46,7 @@ module _ (purpose : Purpose) (code place : ℕ) where
       → (is_code purpose code ≡ true) × (scale ≡ named code)
   code_named scale e = by (is_code purpose code) e
     where
-      by : (t : Bool) → cond t (Ok (named code)) (Err (record { number = 1; place = place })) ≡ Ok scale
+      by : (t : Bool) → cond {A = Result Scale Refusal} t (Ok (named code)) (Err (record { number = 1; place = place })) ≡ Ok scale
           → (t ≡ true) × (scale ≡ named code)
       by true e = (refl, cc)
       by false e = let z : ◌≡◌ {A = ℕ} 0 1 = cc in let no : ⊥ = omega arith in absurd no
@@ -81,18 +81,18 @@ module _ (reads writes : Purpose) (from to : ℕ) (fits right : Bool) where
         rw (f.0, t.0, f.1, t.1)
 
 -- ---- what is settled is what is asked, and then the table
-abbrev pub settled_by : Asked → Judged → Check
+abbrev pub settled_by : Result Asked Refusal → Judged → Check
 settled_by (Ok (A.Plain start end)) table = passes
 settled_by (Ok (A.Crossing start end)) table = of_table table
 settled_by (Err refusal) table = refuses refusal
 
 -- the scales asked for are the codes', and a plain path does not cross
-abbrev pub Between : Scale → Scale → Asked → Type 0
+abbrev pub Between : Scale → Scale → Result Asked Refusal → Type 0
 Between from to (Ok (A.Plain start end)) = (start ≡ from) × (end ≡ to) × (crosses from to ≡ false)
 Between from to (Ok (A.Crossing start end)) = (start ≡ from) × (end ≡ to)
 Between from to (Err refusal) = Unit {0}
 
-pub record Asks (reads writes : Purpose) (from to : ℕ) (fits right : Bool) (asked : Asked) : Type 0 where
+pub record Asks (reads writes : Purpose) (from to : ℕ) (fits right : Bool) (asked : Result Asked Refusal) : Type 0 where
   pub settles : (table : Judged) → settled reads writes from to fits right table ≡ settled_by asked table
   pub between : Between (named from) (named to) asked
 
@@ -143,14 +143,11 @@ unlent reads writes from to fits right e = by (is_code reads from) (is_code writ
     by false q f r e = (record { number = 1; place = 0 }, refl)
 
 -- a path is no refusal
-pub plain_sound : (start end : Scale) (refusal : Refusal) → Ok (A.Plain start end) ≡ Err refusal → ⊥
-plain_sound start end refusal e = let z : ◌≡◌ {A = ℕ} 0 2 = cc in omega arith
-
-pub crossing_sound : (start end : Scale) (refusal : Refusal) → Ok (A.Crossing start end) ≡ Err refusal → ⊥
-crossing_sound start end refusal e = let z : ◌≡◌ {A = ℕ} 0 2 = cc in omega arith
+pub sound : (asked : Asked) (refusal : Refusal) → Ok asked ≡ Err refusal → ⊥
+sound asked refusal e = let z : ◌≡◌ {A = ℕ} 0 1 = cc in omega arith
 
 -- so that they fit and are right where what is asked is no refusal, and where all is settled
-pub asked_lent : (reads writes : Purpose) (from to : ℕ) (fits right : Bool) (asked : Asked)
+pub asked_lent : (reads writes : Purpose) (from to : ℕ) (fits right : Bool) (asked : Result Asked Refusal)
     → asked_of reads writes from to fits right ≡ asked
     → ((refusal : Refusal) → asked ≡ Err refusal → ⊥) → (fits && right) ≡ true
 asked_lent reads writes from to fits right asked e sound = by (fits && right) refl
@@ -168,7 +165,7 @@ settled_lent reads writes from to fits right table e = by (fits && right) refl
     by false l =
         let u = unlent reads writes from to fits right l in
         let no : passes ≡ refuses u.0 =
-        sym e ∙ (asks reads writes from to fits right).settles table ∙ ap (λ (a : Asked). settled_by a table) u.1 in
+        sym e ∙ (asks reads writes from to fits right).settles table ∙ ap (λ (a : Result Asked Refusal). settled_by a table) u.1 in
         let z : ◌≡◌ {A = ℕ} 0 1 = cc in
         let impossible : ⊥ = omega arith in
         absurd impossible
@@ -198,7 +195,7 @@ module _ (start end : Scale) where
 
 -- ---- a conversion by what is asked
 module _ (from to : ℕ) (table : Judged) (cs : List ℤ) where
-  by_between : (asked : Asked) → Between (named from) (named to) asked → (read : Read)
+  by_between : (asked : Result Asked Refusal) → Between (named from) (named to) asked → (read : Read)
       → convert_asked asked read table cs
       ≡ answering (settled_by asked table) (between_of (named from) (named to) read (held_by table) cs)
   by_between (Ok (A.Plain start end)) b read =
@@ -206,7 +203,7 @@ module _ (from to : ℕ) (table : Judged) (cs : List ℤ) where
   by_between (Ok (A.Crossing start end)) b read = rw (b.0, b.1)
   by_between (Err refusal) b read = refl
 
-  pub by_asked : (reads writes : Purpose) (fits right : Bool) (asked : Asked) (read : Read)
+  pub by_asked : (reads writes : Purpose) (fits right : Bool) (asked : Result Asked Refusal) (read : Read)
       → asked_of reads writes from to fits right ≡ asked
       → convert_asked asked read table cs ≡ convert_read reads writes from to fits right read table cs
   unfolding convert_read
@@ -214,14 +211,14 @@ module _ (from to : ℕ) (table : Judged) (cs : List ℤ) where
       let a = asks reads writes from to fits right in
       rw (← is) (by_between (asked_of reads writes from to fits right) a.between read ∙ rw (a.settles table))
 
-pub of_tick : (purpose : Purpose) (from to : ℕ) (tick : ℤ) (table : Judged) (cs : List ℤ) (asked : Asked) (read : Read)
+pub of_tick : (purpose : Purpose) (from to : ℕ) (tick : ℤ) (table : Judged) (cs : List ℤ) (asked : Result Asked Refusal) (read : Read)
     → asked_of purpose purpose from to true true ≡ asked → read ≡ in_range tick
     → convert_asked asked read table cs ≡ convert_judged purpose from to tick table cs
 of_tick purpose from to tick table cs asked read is was =
     rw (← was) (by_asked from to table cs purpose purpose true true asked read is)
 
 pub into : (writes : Purpose) (from to : ℕ) (reading : Reading) (leaps : List ℤ) (bytes : List ℕ) (reads : Purpose)
-    (asked : Asked) (read : Read) → reads ≡ purpose_of reading
+    (asked : Result Asked Refusal) (read : Read) → reads ≡ purpose_of reading
     → asked_of reads writes from to (leaps_fit reads writes leaps) (leaps_right reads writes leaps) ≡ asked
     → read ≡ read_of leaps reading
     → asked_over asked read bytes ≡ convert_into writes from to reading leaps bytes

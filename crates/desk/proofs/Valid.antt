@@ -4,6 +4,7 @@ use Rattle.blocks.specs.Answers.{Judged}
 use Rattle.scales.specs.Answers.{Read, converted_to}
 use Rattle.image.specs.declared.table.Table.{Table}
 use Rattle.std.specs.Prelude.{Err, None, Ok, Option, Some}
+use Rattle.scales.proofs.Reached.{same_epoch, nowhere, same_tick}
 use mathlib.Core.Path.{◌≡◌, refl}
 use mathlib.Core.Bool.{Bool, true, false, cond, not, ◌&&◌}
 use mathlib.Core.List.{List, [], ◌∷◌}
@@ -22,7 +23,6 @@ use Rattle.scales.specs.Rows.{LineRow, line_row, turned, line_step}
 use Rattle.scales.specs.Scales.{named}
 use Rattle.scales.specs.Tick.{is_valid}
 use Rattle.scales.proofs.Every.{each_step}
-use Rattle.scales.proofs.Reached.{nowhere, same_tick}
 use Rattle.linear.proofs.Promises.{took}
 use Rattle.utc.specs.Days.{is_reading, tai_of}
 use Rattle.utc.specs.Leaps.{is_list_right}
@@ -132,7 +132,7 @@ walk_valid : (kept : Option Table) (cs : List ℤ) → Held kept cs → (p : Lis
     → is_valid start.tick ≡ true → {epoch : Epoch} {n : ℕ} → walk_of kept cs p done start ≡ converted_to epoch n
     → is_valid epoch.tick ≡ true
 unfolding walk_of
-walk_valid kept cs h [] done start v {epoch} e = let same : start ≡ epoch = cc in rw (← same) v
+walk_valid kept cs h [] done start v {epoch} e = let same : start ≡ epoch = same_epoch e in rw (← same) v
 walk_valid kept cs h (step ∷ more) done start v {epoch} {n} e =
     let x = stepping epoch n (walk_of kept cs more (suc done)) done (step_of kept cs step start.tick) e in
     walk_valid kept cs h more (suc done) x.at (step_valid cs start.tick x.at kept h step x.reached) x.onwards

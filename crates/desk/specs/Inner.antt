@@ -1,7 +1,8 @@
 -- What the inner functions ask of their callers, and what they give.
 use Rattle.scales.specs.Answers.{Read, Answer}
 use Rattle.blocks.specs.Answers.{Judged}
-use Rattle.std.specs.Prelude.{Err, None, Ok, Some, Bool, cond, List, [], ◌∷◌, ℕ, ℤ}
+use Rattle.std.specs.Prelude.{Err, None, Ok, Some, Bool, cond, List, [], ◌∷◌, ℕ, ℤ, Result}
+use Rattle.scales.specs.declared.refusal.Refusal.{Refusal}
 use Rattle.scales.specs.declared.scale.Purpose.{Purpose}
 use Rattle.scales.specs.declared.scale.Scale.{Scale}
 use Rattle.scales.specs.Path.{crosses}
@@ -16,11 +17,11 @@ use Rattle.desk.specs.Order.{Check, passes, refuses, unless, first_of, before_ta
 use Rattle.desk.specs.Conversion.{answering, between_of, held_by}
 
 -- ---- what is asked, before any table or reading is looked at
-abbrev pub asked_by : Check → Scale → Scale → Asked
+abbrev pub asked_by : Check → Scale → Scale → Result Asked Refusal
 asked_by passes start end = cond (crosses start end) (Ok (A.Crossing start end)) (Ok (A.Plain start end))
 asked_by (refuses refusal) start end = Err refusal
 
-unfoldable pub asked_of : Purpose → Purpose → ℕ → ℕ → Bool → Bool → Asked
+unfoldable pub asked_of : Purpose → Purpose → ℕ → ℕ → Bool → Bool → Result Asked Refusal
 asked_of reads writes from to fits right =
     asked_by (first_of (before_table reads writes from to fits right)) (named from) (named to)
 
@@ -33,7 +34,7 @@ abbrev pub crossed_of : Scale → Scale → Read → Judged → List ℤ → Ans
 crossed_of from to read table coefficients =
     answering (of_table table) (between_of from to read (held_by table) coefficients)
 
-abbrev pub convert_asked : Asked → Read → Judged → List ℤ → Answer
+abbrev pub convert_asked : Result Asked Refusal → Read → Judged → List ℤ → Answer
 convert_asked (Ok (A.Plain from to)) read table coefficients = between_of from to read None []
 convert_asked (Ok (A.Crossing from to)) read table coefficients =
     crossed_of from to read table coefficients
@@ -47,5 +48,5 @@ taken_over from to read bytes table =
 abbrev pub over_bytes : Scale → Scale → Read → List ℕ → Answer
 over_bytes from to read bytes = crossed_of from to read (judged bytes) (coefficients_in bytes)
 
-abbrev pub asked_over : Asked → Read → List ℕ → Answer
+abbrev pub asked_over : Result Asked Refusal → Read → List ℕ → Answer
 asked_over asked read bytes = convert_asked asked read (judged bytes) (coefficients_in bytes)

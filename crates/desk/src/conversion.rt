@@ -49,7 +49,7 @@ fn over_bytes(from: Scale, to: Scale, read: Result<i64, Refusal>, bytes: &[u8]) 
 
 // A tick that was read, walked; over the table if the path crosses.
 fn convert_tick(asked: Asked, tick: i64, table: &[u8]) -> Result<Converted, Refusal>
-    ensures { result ≡ asked_over asked (Ok tick) table.now }
+    ensures { result ≡ asked_over (Ok asked) (Ok tick) table.now }
 {
     match asked {
         Asked::Plain(start, end) => walk(start, end, tick, None, &[]),
@@ -59,7 +59,7 @@ fn convert_tick(asked: Asked, tick: i64, table: &[u8]) -> Result<Converted, Refu
 
 // A reading that was refused: the table's refusals come before it.
 fn refuse(asked: Asked, refusal: Refusal, table: &[u8]) -> Result<Converted, Refusal>
-    ensures { result ≡ asked_over asked (Err refusal) table.now }
+    ensures { result ≡ asked_over (Ok asked) (Err refusal) table.now }
 {
     match asked {
         Asked::Plain(_, _) => Err(refusal),

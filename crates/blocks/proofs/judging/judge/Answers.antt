@@ -20,7 +20,7 @@ use borrow.Author.Count.{below_none}
 use lib.ListN.{length}
 use mathlib.Core.Bool.{true}
 use mathlib.Core.List.{List}
-use Rattle.std.proofs.lemmas.Result.{err_from_is_err_and}
+use Rattle.scales.proofs.PassedOn.{passed_on}
 use mathlib.Core.Path.{◌≡◌, refl, sym, ◌∙◌, ap}
 use native.Mathlib.Omega.{arith}
 use Rattle.blocks.proofs.judging.judge.Goals as goal
@@ -140,8 +140,7 @@ by_granules c =
 pub returns-in_err-test_stored : goal.returns-in_err-test_stored
 unfolding judged_tested
 returns-in_err-test_stored c =
-    let passed_on = err_from_is_err_and c.from_residual.result c.from_residual.ensures.1 in
-    passed_on.1 ∙ ap Err passed_on.2 ∙ sym (ap (judged_tested c.table_of-table.result) c.in_err-test_stored.was)
+    passed_on _ _ c.from_residual.ensures ∙ sym (ap (judged_tested c.table_of-table.result) c.in_err-test_stored.was)
     ∙ by_granules (goal.at.returns-in_err-test_stored c).After-test_stored
 
 pub returns : goal.returns

@@ -5,7 +5,7 @@ use Rattle.granules.specs.Accepted as table
 use Rattle.blocks.proofs.Taking.{read_table_refused, read_unfit, read_done}
 use Rattle.blocks.specs.Judging.{judged}
 use Rattle.image.proofs.Slots.{room}
-use Rattle.std.proofs.lemmas.Result.{err_from_is_err_and}
+use Rattle.scales.proofs.PassedOn.{passed_on}
 use mathlib.Core.Path.{◌≡◌, sym, ◌∙◌, ap}
 use native.Mathlib.Omega.{arith}
 use Rattle.blocks.proofs.reading.read.Goals as goal
@@ -38,8 +38,7 @@ take_coefficients-requires c =
 
 pub returns-in_err-table : goal.returns-in_err-table
 returns-in_err-table c =
-    let passed_on = err_from_is_err_and c.from_residual.result c.from_residual.ensures.1 in
-    rw (passed_on.1 ∙ ap Err passed_on.2)
+    rw (passed_on _ _ c.from_residual.ensures)
     (read_table_refused c.args.bytes.now c.args.coefficients.now _ (sym c.judge.ensures ∙ c.in_err-table.was))
 
 pub returns : goal.returns

@@ -7,7 +7,7 @@ use Rattle.image.specs.Bounds.{is_bounded}
 use Rattle.blocks.specs.Judging.{table_from}
 use Rattle.image.specs.declared.table.Table.{Table}
 use mathlib.Core.Bool.{true}
-use Rattle.std.proofs.lemmas.Result.{err_from_is_err_and}
+use Rattle.scales.proofs.PassedOn.{passed_on}
 use mathlib.Core.Path.{◌≡◌, sym, ◌∙◌, ap}
 use mir.Syntax.{w64}
 use mir.Val.{to_z, of_z}
@@ -64,9 +64,8 @@ put_image-requires c =
 
 pub returns-in_err-test_listed : goal.returns-in_err-test_listed
 returns-in_err-test_listed c =
-    let passed_on = err_from_is_err_and c.from_residual.result c.from_residual.ensures.1 in
     let same = rw (length_back (goal.at.returns-in_err-test_listed c).Start) at c.test_listed.ensures in
-    rw (passed_on.1 ∙ ap Err passed_on.2)
+    rw (passed_on _ _ c.from_residual.ensures)
     (wrote_refused (table (goal.at.returns-in_err-test_listed c).Start) c.args.coefficients.now c.args.image.now _
     (by_refused (table (goal.at.returns-in_err-test_listed c).Start) c.args.coefficients.now c.args.image.now c.if-coefficients-granules.false
     c.if-image-granules.false (is_bounded_lem (goal.at.returns-in_err-test_listed c).Else-not-bounded) _

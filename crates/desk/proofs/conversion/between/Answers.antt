@@ -1,5 +1,5 @@
 -- `desk::conversion::between` meets its contract. Assumes nothing.
-use Rattle.std.specs.Prelude.{Ok, Err}
+use Rattle.scales.proofs.PassedOn.{passed_on}
 use borrow.Author.Rules.{rules}
 use mathlib.Core.Path.{◌∙◌}
 use mir.Syntax.{w64}
@@ -7,10 +7,10 @@ use mir.ValLaws.{to_z-of_z}
 use Rattle.desk.proofs.Asking.{between_tick, between_refusal}
 use Rattle.desk.proofs.conversion.between.Goals as goal
 
-pub returns-in-Ok : goal.returns-in-Ok
-returns-in-Ok c =
-    rw c.in-Ok.is
-    (rw (to_z-of_z w64 c.in-Ok.tick (record { sfits = search rules })) at c.walk.ensures ∙ between_tick _ _ _ _ _)
+pub returns-in_err-tick : goal.returns-in_err-tick
+returns-in_err-tick c = rw (passed_on _ _ c.from_residual.ensures, c.in_err-tick.was) (between_refusal _ _ _ _ _)
 
-pub returns-in-Err : goal.returns-in-Err
-returns-in-Err c = rw c.in-Err.is (between_refusal _ _ _ _ _)
+pub returns : goal.returns
+returns c =
+    rw c.in_ok-tick.was
+    (rw (to_z-of_z w64 c.in_ok-tick.tick (record { sfits = search rules })) at c.walk.ensures ∙ between_tick _ _ _ _ _)

@@ -1,5 +1,4 @@
 -- `desk::conversion::convert_tick` meets its contract. Assumes nothing.
-use Rattle.std.specs.Prelude.{Err}
 use mathlib.Core.Path.{◌∙◌}
 use mir.Syntax.{w64}
 use mir.ValLaws.{to_z-of_z}
@@ -15,6 +14,3 @@ returns-in-Plain c = rw c.in-Plain.is (rw (to_z-of_z w64 _ c.ranges.tick) at c.w
 
 pub returns-in-Crossing : goal.returns-in-Crossing
 returns-in-Crossing c = rw (c.in-Crossing.is, ← to_z-of_z w64 _ c.ranges.tick) c.over_bytes.ensures
-
-pub returns-in-Err : goal.returns-in-Err
-returns-in-Err c = rw c.in-Err.is

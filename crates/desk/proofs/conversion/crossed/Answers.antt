@@ -1,13 +1,13 @@
 -- `desk::conversion::crossed` meets its contract. Assumes nothing.
-use Rattle.std.specs.Prelude.{Ok, Err}
+use Rattle.scales.proofs.PassedOn.{passed_on}
 use Rattle.walk.proofs.Holding.{accepted_held}
 use Rattle.desk.proofs.conversion.crossed.Goals as goal
 
 pub between-requires : goal.between-requires
-between-requires c = accepted_held _ _ (c.requires.accepted _ c.in-Ok.is)
+between-requires c = accepted_held _ _ (c.requires.accepted _ c.in_ok-judged.was)
 
-pub returns-in-Ok : goal.returns-in-Ok
-returns-in-Ok c = rw c.in-Ok.is c.between.ensures
+pub returns-in_err-judged : goal.returns-in_err-judged
+returns-in_err-judged c = rw (passed_on _ _ c.from_residual.ensures, c.in_err-judged.was)
 
-pub returns-in-Err : goal.returns-in-Err
-returns-in-Err c = rw c.in-Err.is
+pub returns : goal.returns
+returns c = rw c.in_ok-judged.was c.between.ensures

@@ -1,5 +1,4 @@
 -- `desk::conversion::refuse` meets its contract. Assumes nothing.
-use Rattle.std.specs.Prelude.{Err}
 use Rattle.desk.proofs.Asking.{between_refusal}
 use Rattle.desk.proofs.conversion.refuse.Goals as goal
 
@@ -8,6 +7,3 @@ returns-in-Plain c = rw c.in-Plain.is (between_refusal _ _ _ _ _)
 
 pub returns-in-Crossing : goal.returns-in-Crossing
 returns-in-Crossing c = rw c.in-Crossing.is c.over_bytes.ensures
-
-pub returns-in-Err : goal.returns-in-Err
-returns-in-Err c = rw c.in-Err.is
