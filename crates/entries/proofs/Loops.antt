@@ -31,6 +31,12 @@ module _ (entry : ℤ → Answer) (steps : ℕ) (ticks : List ℤ) (index : ℕ)
       → tried_of entry steps index (drop index ticks) ≡ tried_of entry steps (index + 1) (drop (index + 1) ticks)
   accepted_goes_on epoch many h e = next_tried h ∙ rw e
 
+  pub not_refused_goes_on : index < length ticks → (answer : Answer) → entry (get_or ticks index (pos 0)) ≡ answer
+      → ((refusal : Refusal) → answer ≡ Err refusal → ⊥)
+      → tried_of entry steps index (drop index ticks) ≡ tried_of entry steps (index + 1) (drop (index + 1) ticks)
+  not_refused_goes_on h (Ok converted) e not = accepted_goes_on converted.epoch converted.steps h e
+  not_refused_goes_on h (Err refusal) e not = absurd (not refusal refl)
+
   pub refused_stops : (refusal : Refusal) → index < length ticks
       → entry (get_or ticks index (pos 0)) ≡ Err refusal
       → tried_of entry steps index (drop index ticks) ≡ refused_at refusal index

@@ -1,5 +1,6 @@
 -- What trying a list tells: that every entry is accepted, or the first that is refused. Assumes
 -- nothing.
+use Rattle.entries.specs.declared.batched.RefusedAt.{RefusedAt}
 use Rattle.entries.specs.Batched.{Batched, refused_at}
 use Rattle.scales.specs.Answers.{Answer, converted_to}
 use Rattle.std.specs.Prelude.{Err, Ok}
@@ -19,6 +20,17 @@ use Rattle.walk.proofs.Steps.{Answered}
 pub never_both : {P : Type 0} {answer : Batched} {refusal : Refusal} {index n : ℕ} → answer ≡ refused_at refusal index
     → answer ≡ Ok n → P
 never_both r e = let z : ◌≡◌ {A = ℕ} 0 1 = cc in let no : ⊥ = omega arith in absurd no
+
+-- and one that is refused is so with one refusal, at one index
+abbrev refused_with : RefusedAt → Batched → RefusedAt
+refused_with else (Ok steps) = else
+refused_with else (Err refused) = refused
+
+same_refusal : {r s : Refusal} {i j : ℕ} → refused_at r i ≡ refused_at s j → r ≡ s
+same_refusal {r} {i = i} e = ap (λ (b : Batched). (refused_with (record { refusal = r; index = i }) b).refusal) e
+
+same_index : {r s : Refusal} {i j : ℕ} → refused_at r i ≡ refused_at s j → i ≡ j
+same_index {r} {i = i} e = ap (λ (b : Batched). (refused_with (record { refusal = r; index = i }) b).index) e
 
 -- ---- trying a list
 -- every entry below a bound is accepted
@@ -61,8 +73,8 @@ module _ (entry : ℤ → Answer) (tick : ℤ) (more : List ℤ) where
       let k = r.1 in
       (suc r.0, omega arith, record { inside = omega arith; refuses = f.refuses; before = accepted_first converted.epoch converted.steps r.0 d f.before })
   refused_cons (Err first) index {refusal} {told} later d rest e =
-      let same : first ≡ refusal = cc in
-      let here : told ≡ index = cc in
+      let same : first ≡ refusal = same_refusal e in
+      let here : index ≡ told = same_index e in
       (0, omega arith, record { inside = omega arith; refuses = d ∙ ap Err same; before = λ i h. absurd (not-suc-le-zero h) })
 
 module _ (entry : ℤ → Answer) (many : ℕ) where

@@ -1,6 +1,6 @@
 -- What trying the entries goes through: the ends of a list, and whether an answer is accepted.
 use Rattle.scales.specs.Answers.{Answer, converted_to}
-use Rattle.std.specs.Prelude.{Err, Bool, true, false, cond, List, [], ◌∷◌, ℤ, Ok}
+use Rattle.std.specs.Prelude.{is_ok, Err, Bool, true, false, cond, List, [], ◌∷◌, ℤ, Ok}
 use Rattle.std.specs.Int.Signed.{lt_z}
 use Rattle.entries.specs.declared.trying.Ends.{Ends}
 
@@ -19,5 +19,4 @@ ends_of earliest latest (tick ∷ more) =
 
 -- an answer that is no refusal
 abbrev pub is_accepted : Answer → Bool
-is_accepted (Ok converted) = true
-is_accepted (Err refusal) = false
+is_accepted answer = is_ok answer

@@ -3,6 +3,7 @@
 use Rattle.std.specs.Prelude.{Ok, Err}
 use Rattle.utc.specs.Answers.{UtcWritten}
 use Rattle.scales.specs.Answers.{converted_to}
+use Rattle.scales.proofs.PassedOn.{passed_on}
 use borrow.Author.Rules.{rules}
 use mathlib.Core.Path.{◌≡◌, refl, sym, ◌∙◌}
 use mathlib.Core.Bool.{Bool, true, false, ◌||◌}
@@ -22,6 +23,7 @@ use Rattle.desk.specs.Order.{is_utc}
 use Rattle.desk.proofs.Valid.{into_right, into_valid}
 use Rattle.written.specs.Written.{written_after, write_utc_of}
 use Rattle.written.proofs.write_utc.Goals as goal
+use Rattle.written.proofs.write_utc.Goals.{In_ok-converted}
 
 or_true : (flag : Bool) → (flag || true) ≡ true
 or_true true = refl
@@ -41,22 +43,27 @@ by_written : (from to : ℕ) (reading : Reading) (leaps : List ℤ) (bytes : Lis
 unfolding write_utc_of
 by_written from to reading leaps bytes e w = rw (e, w)
 
+-- what was converted to, and that its tick reads back
+converts : (c : In_ok-converted) → convert_into Utc c.args.from c.args.to c.args.reading c.args.leaps.now c.args.table.now ≡ Ok c.in_ok-converted.converted
+converts c = sym c.convert_into.ensures ∙ c.in_ok-converted.was
+
 pub write-requires : goal.write-requires
 write-requires c =
-    rw (to_z-of_z w64 c.in-converted_to.epoch.tick (record { sfits = search rules }))
-    (to_write _ _ _ _ _ (sym c.convert_into.ensures ∙ c.in-converted_to.is))
+    rw (to_z-of_z w64 c.in_ok-converted.converted.epoch.tick (record { sfits = search rules }))
+    (to_write _ _ _ _ _ (converts (goal.at.write-requires c).In_ok-converted))
 
 -- the tick, written
-pub returns-in-Ok : goal.returns-in-Ok
-returns-in-Ok c =
-    let wrote = rw (to_z-of_z w64 c.in-converted_to.epoch.tick (record { sfits = search rules })) at c.write.ensures in
-    by_written _ _ _ _ _ (sym c.convert_into.ensures ∙ c.in-converted_to.is) (sym wrote ∙ c.in-Ok.is)
+pub returns : goal.returns
+returns c =
+    let wrote = rw (to_z-of_z w64 c.in_ok-converted.converted.epoch.tick (record { sfits = search rules })) at c.write.ensures in
+    by_written _ _ _ _ _ (converts (goal.at.returns c).In_ok-converted) (sym wrote ∙ c.in_ok-utc.was)
 
-pub returns-in-Err-write : goal.returns-in-Err-write
-returns-in-Err-write c =
-    let wrote = rw (to_z-of_z w64 c.in-converted_to.epoch.tick (record { sfits = search rules })) at c.write.ensures in
-    by_written _ _ _ _ _ (sym c.convert_into.ensures ∙ c.in-converted_to.is) (sym wrote ∙ c.in-Err-write.is)
+pub returns-in_err-utc : goal.returns-in_err-utc
+returns-in_err-utc c =
+    let wrote = rw (to_z-of_z w64 c.in_ok-converted.converted.epoch.tick (record { sfits = search rules })) at c.write.ensures in
+    passed_on _ _ c.from_residual-in_err-utc.ensures
+    ∙ by_written _ _ _ _ _ (converts (goal.at.returns-in_err-utc c).In_ok-converted) (sym wrote ∙ c.in_err-utc.was)
 
-pub returns-in-Err : goal.returns-in-Err
+pub returns-in_err-converted : goal.returns-in_err-converted
 unfolding write_utc_of
-returns-in-Err c = rw (← c.convert_into.ensures, c.in-Err.is)
+returns-in_err-converted c = rw (passed_on _ _ c.from_residual.ensures, ← c.convert_into.ensures, c.in_err-converted.was)

@@ -1,6 +1,6 @@
 -- `entries::trying::is_accepted` meets its contract. Assumes nothing.
-use Rattle.std.specs.Prelude.{Ok, Err}
-use mathlib.Core.Path.{◌≡◌, sym, ◌∙◌}
+use Rattle.std.specs.Prelude.{is_ok}
+use mathlib.Core.Path.{◌≡◌, ◌∙◌, ap}
 use mir.Syntax.{w64}
 use mir.ValLaws.{to_z-of_z}
 use Rattle.entries.specs.Entries.{entry_of}
@@ -14,8 +14,5 @@ told : (c : After-between) → c.between.result
 told c =
     rw (c.ranged.ensures, to_z-of_z w64 _ c.ranges.tick) at c.between.ensures ∙ entry_read _ _ _ _ _
 
-pub returns-in-Ok : goal.returns-in-Ok
-returns-in-Ok c = rw (sym (told (goal.at.returns-in-Ok c).After-between) ∙ c.in-Ok.is)
-
-pub returns-in-Err : goal.returns-in-Err
-returns-in-Err c = rw (sym (told (goal.at.returns-in-Err c).After-between) ∙ c.in-Err.is)
+pub returns : goal.returns
+returns c = c.is_ok.ensures.value ∙ ap is_ok (told (goal.at.returns c).After-between)

@@ -7,7 +7,7 @@ use lib.ListN.{get_or}
 use mir.Syntax.{w64}
 use mir.ValLaws.{to_z-of_z}
 use Rattle.entries.specs.Entries.{entry_of}
-use Rattle.entries.proofs.Loops.{accepted_goes_on, refused_stops, none_left, entry_read}
+use Rattle.entries.proofs.Loops.{not_refused_goes_on, refused_stops, none_left, entry_read}
 use Rattle.entries.proofs.trying.tried_each.Goals as goal
 use Rattle.entries.proofs.trying.tried_each.Goals.{After-between, Start}
 
@@ -35,7 +35,7 @@ pub loop-index-preserved : goal.loop-index-preserved
 loop-index-preserved c = (
   search rules,
   c.loop-index.invariant.1
-      ∙ accepted_goes_on _ _ _ _ _ _ c.loop-index-test.true (sym (entry_is (goal.at.loop-index-preserved c).After-between) ∙ c.in-Ok.is),
+      ∙ not_refused_goes_on _ _ _ _ c.loop-index-test.true _ (sym (entry_is (goal.at.loop-index-preserved c).After-between)) c.in_default.not-Err,
 )
 
 pub returns : goal.returns
