@@ -3,7 +3,7 @@
 use Rattle.entries.specs.Batched.{Batched, refused_at}
 use Rattle.blocks.specs.Answers.{Judged}
 use Rattle.scales.specs.Answers.{Answer, answer_tick}
-use Rattle.std.specs.Prelude.{Err, None, Ok}
+use Rattle.std.specs.Prelude.{Err, None, Ok, Result}
 use mathlib.Core.Path.{◌≡◌, refl, sym, ◌∙◌, ap}
 use mathlib.Core.Bool.{Bool, true}
 use mathlib.Core.List.{List, [], ◌∷◌, map}
@@ -44,11 +44,11 @@ module _ (from to : Scale) (ticks answers : List ℤ) (bytes : List ℕ) where
   filled_judged refusal e = filled_not refusal 0 (rw e)
 
 -- ---- what is asked of an entry alone
-pub batch_fits : (from to : ℕ) (fits : Bool) (asked : Asked) → asked_of P.Batch P.Batch from to fits true ≡ asked
+pub batch_fits : (from to : ℕ) (fits : Bool) (asked : Result Asked Refusal) → asked_of P.Batch P.Batch from to fits true ≡ asked
     → ((refusal : Refusal) → asked ≡ Err refusal → ⊥) → fits ≡ true
 batch_fits from to fits asked e sound = (both fits true (asked_lent P.Batch P.Batch from to fits true asked e sound)).0
 
-pub asked_alone : (from to : ℕ) (fits : Bool) (asked : Asked) → asked_of P.Batch P.Batch from to fits true ≡ asked
+pub asked_alone : (from to : ℕ) (fits : Bool) (asked : Result Asked Refusal) → asked_of P.Batch P.Batch from to fits true ≡ asked
     → ((refusal : Refusal) → asked ≡ Err refusal → ⊥)
     → asked_of P.Reading P.Reading from to true true ≡ asked
 unfolding asked_of
@@ -68,7 +68,7 @@ map_same f g same [] = refl
 map_same f g same (tick ∷ more) = rw (same tick, map_same f g same more)
 
 module _ (from to : ℕ) (ticks : List ℤ) (table : Judged) (cs : List ℤ) where
-  by_between : (asked : Asked) → Between (named from) (named to) asked → batch_asked asked ticks table cs
+  by_between : (asked : Result Asked Refusal) → Between (named from) (named to) asked → batch_asked asked ticks table cs
       ≡ batch_settled (settled_by asked table) (all_tried (named from) (named to) ticks (held_by table) cs)
   by_between (Ok (A.Plain start end)) b =
       rw (b.0, b.1) (tried_same (entry_of (named from) (named to) None [])
@@ -78,7 +78,7 @@ module _ (from to : ℕ) (ticks : List ℤ) (table : Judged) (cs : List ℤ) whe
   by_between (Err refusal) b = refl
 
 -- by what is asked
-batch_asked_lem : (from to : ℕ) (ticks : List ℤ) (many : ℕ) (bytes : List ℕ) (asked : Asked)
+batch_asked_lem : (from to : ℕ) (ticks : List ℤ) (many : ℕ) (bytes : List ℕ) (asked : Result Asked Refusal)
     → asked_of P.Batch P.Batch from to (eqb (length ticks) many) true ≡ asked
     → batch_asked asked ticks (judged bytes) (coefficients_in bytes) ≡ batch_of from to ticks many bytes
 unfolding batch_of
@@ -96,7 +96,7 @@ module _ (from to : ℕ) (ticks answers : List ℤ) (bytes : List ℕ) where
       let is = batch_asked_lem from to ticks (length answers) bytes (Err refusal) e in
       record { answer = is; list = rw (← is) }
 
-  pub has_converted : (asked : Asked) {answers' : List ℤ} {r : Batched}
+  pub has_converted : (asked : Result Asked Refusal) {answers' : List ℤ} {r : Batched}
       → asked_of P.Batch P.Batch from to (eqb (length ticks) (length answers)) true ≡ asked
       → asked_of P.Reading P.Reading from to true true ≡ asked
       → Filled (batch_asked asked ticks (judged bytes) (coefficients_in bytes))

@@ -1,7 +1,8 @@
 -- What the inner functions ask of their callers, and what they give.
+use Rattle.scales.specs.declared.refusal.Refusal.{Refusal}
 use Rattle.entries.specs.Batched.{Batched, refused_at}
 use Rattle.blocks.specs.Answers.{Judged}
-use Rattle.std.specs.Prelude.{Err, None, Ok, Some, ◌≡◌, List, [], ℕ, ℤ, length}
+use Rattle.std.specs.Prelude.{Err, None, Ok, Some, ◌≡◌, List, [], ℕ, ℤ, length, Result}
 use Rattle.scales.specs.declared.scale.Scale.{Scale}
 use Rattle.image.specs.declared.table.Table.{Table}
 use Rattle.image.specs.Image.{coefficients_stored}
@@ -32,7 +33,7 @@ abbrev pub batch_crossed : Scale → Scale → List ℤ → Judged → List ℤ 
 batch_crossed from to ticks table coefficients =
     batch_settled (of_table table) (all_tried from to ticks (held_by table) coefficients)
 
-abbrev pub batch_asked : Asked → List ℤ → Judged → List ℤ → Batched
+abbrev pub batch_asked : Result Asked Refusal → List ℤ → Judged → List ℤ → Batched
 batch_asked (Ok (A.Plain from to)) ticks table coefficients = all_tried from to ticks None []
 batch_asked (Ok (A.Crossing from to)) ticks table coefficients =
     batch_crossed from to ticks table coefficients

@@ -12,15 +12,7 @@ use entries::batched::RefusedAt;
 use filling::batch_over;
 use image::table::Table;
 use opened::{how_many, taken};
-use scales::refusal::Refusal;
 use scales::scale::{Purpose, Scale};
-
-// A refusal of all entries at once, which has the first one's index.
-fn of_all(refusal: Refusal) -> RefusedAt
-    ensures { result ≡ record { refusal = refusal; index = 0 } }
-{
-    RefusedAt { refusal, index: 0 }
-}
 
 // Over the table that the bytes hold. They have been judged and accepted.
 fn batch_taken(
@@ -59,7 +51,7 @@ fn batch_crossing(
     ensures { FilledCrossing from to ticks.now answers.old
         answers.new bytes.now result }
 {
-    let table = judge(bytes).map_err(of_all)?;
+    let table = judge(bytes)?;
     batch_taken(from, to, ticks, answers, bytes, table)
 }
 
@@ -70,7 +62,7 @@ pub fn batch(from: u32, to: u32, ticks: &[i64], answers: &mut [i64], table: &[u8
         answers.new table.now result }
 {
     let fits = ticks.len() == answers.len();
-    match asked_of(Purpose::Batch, Purpose::Batch, from, to, fits, true).map_err(of_all)? {
+    match asked_of(Purpose::Batch, Purpose::Batch, from, to, fits, true)? {
         Asked::Plain(start, end) => batch_over(start, end, ticks, answers, None, &[]),
         Asked::Crossing(start, end) => batch_crossing(start, end, ticks, answers, table),
     }

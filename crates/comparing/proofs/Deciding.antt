@@ -1,7 +1,9 @@
 -- The answer of comparing: a refusal of either table, 20, 8, or the list. Assumes nothing.
-use Rattle.comparing.specs.Answers.{Compared, refused_of, compared_refused}
+use Rattle.comparing.specs.Answers.{Compared, refused_of, compared_refused, judged_as}
 use Rattle.blocks.specs.Answers.{Judged, judged_refused}
 use Rattle.std.specs.Prelude.{Err, Ok}
+use Rattle.comparing.specs.declared.RefusedOf.{RefusedOf}
+use native.Mathlib.Omega.{arith}
 use borrow.Author.Tests.{eqb-true}
 use mathlib.Core.Path.{◌≡◌, sym, ◌∙◌, ap}
 use mathlib.Core.Bool.{true, false, ◌&&◌}
@@ -24,6 +26,19 @@ use Rattle.comparing.specs.Changes.{Entry, changes_to}
 use Rattle.comparing.specs.Comparing.{changes_of, is_alike, compared_of, compared_into, list_put}
 use Rattle.comparing.specs.Comparing.{HasCompared}
 use Rattle.comparing.proofs.Reading.{readable}
+
+-- ---- a table that was judged as one of two: accepted or refused as it was judged
+pub accepted_as : (which : ℕ) (judgement : Judged) (t : Table) → judged_as which judgement ≡ Ok t → judgement ≡ Ok t
+accepted_as which (Ok s) t e = let same : s ≡ t = cc in ap Ok same
+accepted_as which (Err refusal) t e = let z : ◌≡◌ {A = ℕ} 0 1 = cc in let no : ⊥ = omega arith in absurd no
+
+pub refused_as : (which : ℕ) (judgement : Judged) (told : RefusedOf) → judged_as which judgement ≡ Err told
+    → (judgement ≡ Err told.refusal) × (told ≡ record { refusal = told.refusal; which = which })
+refused_as which (Ok s) told e = let z : ◌≡◌ {A = ℕ} 0 1 = cc in let no : ⊥ = omega arith in absurd no
+refused_as which (Err refusal) told e =
+    let same : record { refusal = refusal; which = which } ≡ told = cc in
+    (ap (λ (r : RefusedOf). Err r.refusal) same,
+    sym same ∙ ap (λ (r : RefusedOf). record { refusal = r.refusal; which = which }) same)
 
 -- ---- in turn: a table's own refusal, or what is left
 abbrev compared_by : ℕ → Judged → Compared → Compared

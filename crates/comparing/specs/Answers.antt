@@ -1,5 +1,7 @@
 -- What each case of the answer says in the page's numbers: 0 for 'accepted', and 0 for whatever a
 -- refusal does not carry.
+use Rattle.image.specs.declared.table.Table.{Table}
+use Rattle.blocks.specs.Answers.{Judged}
 use Rattle.comparing.specs.declared.RefusedOf.{RefusedOf}
 use Rattle.scales.specs.declared.refusal.Refusal.{Refusal}
 use Rattle.std.specs.Prelude.{Result, Ok, Err, List, ℕ, ℤ}
@@ -37,3 +39,8 @@ compared_entries (Err refused) = 0
 abbrev pub compared_left : Compared → List ℤ → List ℤ → List ℤ
 compared_left (Ok entries) new old = new
 compared_left (Err refused) new old = old
+
+-- a table that was judged as the one of that number
+abbrev pub judged_as : ℕ → Judged → Result Table RefusedOf
+judged_as which (Ok table) = Ok table
+judged_as which (Err refusal) = Err (record { refusal = refusal; which = which })

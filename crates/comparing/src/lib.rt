@@ -7,7 +7,8 @@ mod differing;
 mod listing;
 
 ghost use Rattle.std.specs.Prelude.{◌≡◌};
-ghost use Rattle.comparing.specs.Answers.{compared_refused};
+ghost use Rattle.blocks.specs.Judging.{judged};
+ghost use Rattle.comparing.specs.Answers.{compared_refused, judged_as};
 ghost use Rattle.comparing.specs.Comparing.{is_alike, HasCompared};
 ghost use Rattle.comparing.specs.Asked.{BothAccepted};
 
@@ -31,6 +32,13 @@ fn refused(number: u32) -> Result<u64, RefusedOf>
         refusal: Refusal { number, place: 0 },
         which: 0,
     })
+}
+
+// A table's numbers, or its refusal with which of the two it is.
+fn judge_as(which: u32, bytes: &[u8]) -> Result<Table, RefusedOf>
+    ensures { result ≡ judged_as which (judged bytes.now) }
+{
+    judge(bytes).map_err(|refusal| RefusedOf { refusal, which })
 }
 
 // 20: whether two tables have 'equal S, H and G'.
@@ -81,7 +89,7 @@ pub fn compare(first: &[u8], second: &[u8], entries: &mut [i64]) -> Result<u64, 
     ensures { HasCompared first.now second.now entries.old
         entries.new result }
 {
-    let table = judge(first).map_err(|refusal| RefusedOf { refusal, which: 0 })?;
-    let other = judge(second).map_err(|refusal| RefusedOf { refusal, which: 1 })?;
+    let table = judge_as(0, first)?;
+    let other = judge_as(1, second)?;
     compare_accepted(first, table, second, other, entries)
 }

@@ -31,7 +31,7 @@ fn write_all(
 {
     copy_all(ticks, answers);
     let mut scale = from;
-    for _done in 0..LONGEST_PATH {
+    for done in 0..LONGEST_PATH {
         let Some(step) = next_step(scale, to) else {
             return;
         };

@@ -94,10 +94,8 @@ stepped_number (Err Outside.Range) = 4
 
 unfoldable pub stepped_tick : Stepped → ℤ
 stepped_tick (Ok epoch) = epoch.tick
-stepped_tick (Err Outside.Table) = pos 0
-stepped_tick (Err Outside.Range) = pos 0
+stepped_tick (Err outside) = pos 0
 
 unfoldable pub stepped_scale : Stepped → Scale
 stepped_scale (Ok epoch) = epoch.scale
-stepped_scale (Err Outside.Table) = named 0
-stepped_scale (Err Outside.Range) = named 0
+stepped_scale (Err outside) = named 0

@@ -1,13 +1,9 @@
 -- `filling::write_all` meets its contract: what is left of each entry's walk, from where
--- the list stands, is that entry's conversion. The measure is what is left of the longest path.
--- Assumes nothing.
+-- the list stands, is that entry's conversion. Assumes nothing.
 use Prim.Native.Nat.{◌-◌, ◌≤◌}
 use Rattle.scales.specs.Path.{longest_path}
 use Rattle.filling.proofs.Writing.{Walked}
 use Rattle.filling.proofs.write_all.Given as goal
 
 abbrev pub invariant-loop-done : goal.invariant-loop-done
-invariant-loop-done l = (l.done ≤ longest_path) × Walked l.kept l.coefficients l.initial.scale l.to l.ticks l.done l.scale l.answers
-
-abbrev pub decreases-loop-done : goal.decreases-loop-done
-decreases-loop-done l = longest_path - l.done
+invariant-loop-done l = Walked l.kept l.coefficients l.initial.scale l.to l.ticks l.done l.scale l.answers

@@ -13,7 +13,3 @@ returns-in-Ok c = rw (c.in-Ok.is, to_z-of_z w64 c.in-Ok.epoch.tick (record { sfi
 pub returns-in-Err : goal.returns-in-Err
 unfolding stepped_tick
 returns-in-Err c = rw c.in-Err.is
-
-pub returns-in-Err : goal.returns-in-Err
-unfolding stepped_tick
-returns-in-Err c = rw c.in-Err.is
