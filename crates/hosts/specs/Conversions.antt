@@ -3,7 +3,6 @@
 use Rattle.entries.specs.Batched.{Batched}
 use Rattle.scales.specs.Answers as scales
 use Rattle.std.specs.Prelude.{◌≡◌, List, ℕ, ℤ, pos, length}
-use Rattle.scales.specs.Answers as conversion
 use Rattle.batch.specs.Batch.{batch_of, batch_into}
 use Rattle.entries.specs.Batched as batch
 use Rattle.hosts.specs.declared.answers.Answer.{Answer}
@@ -11,11 +10,11 @@ use Rattle.hosts.specs.declared.answers.Answer.{Answer}
 -- a conversion's number, place, tick and steps as the page has them for each case
 abbrev pub converted_answer : scales.Answer → Answer
 converted_answer answer = record {
-  number = conversion.answer_number answer;
-  steps = conversion.answer_steps answer;
-  place = conversion.answer_place answer;
+  number = scales.answer_number answer;
+  steps = scales.answer_steps answer;
+  place = scales.answer_place answer;
   index = 0;
-  tick = conversion.answer_tick answer;
+  tick = scales.answer_tick answer;
 }
 
 -- a batch's; the ticks themselves are in the second list

@@ -3,7 +3,7 @@
 use Rattle.line.specs.Answers.{Line, numbers_read}
 use Rattle.scales.specs.Answers.{Read}
 use Rattle.blocks.specs.Answers.{Judged, judged_number, judged_count, judged_degree}
-use Rattle.std.specs.Prelude.{Err, Ok}
+use Rattle.std.specs.Prelude.{Err, Ok, Result}
 use mathlib.Core.Path.{◌≡◌, refl, sym, ◌∙◌, ap}
 use mathlib.Core.Bool.{true, false}
 use mathlib.Core.List.{List, [], ◌∷◌, ◌++◌, map}
@@ -37,7 +37,7 @@ use Rattle.lines.proofs.Splits.{whole_ended, whole_after, unfinished_after, line
 
 -- ---- a table that was refused has no use for coefficients
 module _ (refusal : Refusal) (one other : List ℤ) where
-  asked_any : (asked : Asked) (read : Read)
+  asked_any : (asked : Result Asked Refusal) (read : Read)
       → convert_asked asked read (Err refusal) one ≡ convert_asked asked read (Err refusal) other
   asked_any (Ok (A.Plain from to)) read = refl
   asked_any (Ok (A.Crossing from to)) read = refl

@@ -54,7 +54,8 @@ fn write_refused(out: &mut [u8], at: usize, number: u32) -> usize
 // it. The callers keep room for the longest line.
 pub fn write_line(out: &mut [u8], at: usize, to: i64, answer: Result<Converted, Refusal>) -> usize
     requires { at + longest ≤ length out.old }
-    ensures { TextPut out.old at (line_text to answer) out.new result }
+    ensures text { TextPut out.old at (line_text to answer) out.new result }
+    ensures short { length (line_text to answer) ≤ longest }
 {
     match answer {
         Ok(converted) => write_answer(out, at, to, converted.epoch.tick, converted.steps),

@@ -16,7 +16,6 @@ use Rattle.printing.specs.Buffers.{longest, TextPut}
 use Rattle.lines.specs.declared.Answered.{Answered}
 use Rattle.lines.specs.Output.{answered_to, printed_for}
 use Rattle.lines.specs.Buffers.{Printed}
-use Rattle.lines.proofs.Held.{short_answered}
 use Rattle.lines.proofs.answer_line.Goals as goal
 
 printed : {text : List ℕ} {line : ℕ} {table : Judged} {coefficients : List ℤ} {out : List ℕ} {at : ℕ}
@@ -35,4 +34,4 @@ pub returns : goal.returns
 returns c =
     let told = c.answer_to-answered in
     let to_is = to_z-of_z w64 told.result.to (record { sfits = search rules }) in
-    printed told.result told.ensures (rw to_is at c.write_line.ensures) (short_answered told.result _ told.type_inv)
+    printed told.result told.ensures (rw to_is at c.write_line.ensures.text) (rw to_is at c.write_line.ensures.short)

@@ -3,7 +3,7 @@
 use Rattle.line.specs.Answers.{Line, numbers_read}
 use Rattle.blocks.specs.Answers.{Judged}
 use Rattle.scales.specs.Answers.{Answer}
-use Rattle.std.specs.Prelude.{Err}
+use Rattle.std.specs.Prelude.{Err, Ok}
 use borrow.Author.Rules.{rules}
 use mathlib.Core.Path.{◌≡◌, sym, ◌∙◌, ap}
 use mathlib.Core.List.{List}
@@ -32,15 +32,15 @@ module _ {line : Line} (table : Judged) (coefficients : List ℤ) where
       → ◌≡◌ {A = Answered} (record { to = pos 0; answer = Err refusal }) (answered_to table coefficients line)
   refused read = rw read
 
-pub returns-in-numbers_read : goal.returns-in-numbers_read
-returns-in-numbers_read c =
-    let found = c.in-numbers_read in
+pub returns-in-Ok : goal.returns-in-Ok
+returns-in-Ok c =
+    let found = c.in-Ok.numbers in
     let from_is = to_z-of_z w64 found.from (record { sfits = search rules }) in
     let to_is = to_z-of_z w64 found.to (record { sfits = search rules }) in
     let tick_is = to_z-of_z w64 found.tick (record { sfits = search rules }) in
     ap (λ (to : ℤ). record { to = to; answer = c.convert_judged-answer.result }) to_is
-    ∙ understood c.args.judged c.args.coefficients.now (sym c.read_line.ensures ∙ found.is) (c.code_of.ensures ∙ ap code_of from_is)
-    (c.code_of-in-numbers_read.ensures ∙ ap code_of to_is) (rw tick_is at c.convert_judged-answer.ensures)
+    ∙ understood c.args.judged c.args.coefficients.now (sym c.read_line.ensures ∙ c.in-Ok.is) (c.code_of.ensures ∙ ap code_of from_is)
+    (c.code_of-in-Ok.ensures ∙ ap code_of to_is) (rw tick_is at c.convert_judged-answer.ensures)
 
 pub returns-in-Err : goal.returns-in-Err
 returns-in-Err c = refused c.args.judged c.args.coefficients.now (sym c.read_line.ensures ∙ c.in-Err.is)

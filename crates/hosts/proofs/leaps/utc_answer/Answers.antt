@@ -12,8 +12,8 @@ unfolding utc_answer_number utc_answer_place utc_answer_day utc_answer_ticks utc
 returns-in-Ok c =
     rw (
       c.in-Ok.is,
-      to_z-of_z w64 c.in-Ok.utc.day (record { sfits = search rules }),
-      to_z-of_z w64 c.in-Ok.utc.ticks (record { sfits = search rules }),
+      to_z-of_z w64 c.in-Ok.written.utc.day (record { sfits = search rules }),
+      to_z-of_z w64 c.in-Ok.written.utc.ticks (record { sfits = search rules }),
     )
 
 pub returns-in-Err : goal.returns-in-Err
