@@ -305,7 +305,7 @@ code_of = equation
 
 -- ---- printing
 pub write_line : OneInto printing.writing.write_line.Reads.Learnt (λ κs s. s.0.now)
-write_line = both (λ κs a r s p. (p.after, p.holds))
+write_line = both (λ κs a r s p. (p.0.after, p.0.holds))
 
 -- ---- lines
 pub feed : OneInto {B = List ℕ × List ℕ} lines.feed.Reads.Learnt (λ κs s. (s.0.now, s.1.1.1.1.1.0.now))

@@ -224,7 +224,7 @@ module _ {A : Type 0} (refused : ℕ → ℕ → A) (last : A) where
 module _ {A : Type 0} (refused : ℕ → ℕ → ℕ → A) (last : A) where
   abbrev pub of_batched : Batched → A
   of_batched (Ok many) = last
-  of_batched (Err refused) = refused refused.refusal.number refused.refusal.place refused.index
+  of_batched (Err told) = refused told.refusal.number told.refusal.place told.index
 
   settled_batch : (check : Check) (batched : Batched)
       → of_check (λ n p. refused n p 0) (of_batched batched) check ≡ of_batched (batch_settled check batched)

@@ -18,7 +18,7 @@ use Rattle.scales.specs.declared.scale.Purpose.TheVariants as P
 use Rattle.scales.specs.declared.scale.Scale.{Scale}
 use Rattle.scales.specs.Path.{crosses}
 use Rattle.scales.proofs.Paths.{Leads}
-use Rattle.scales.proofs.Reached.{same_scale}
+use Rattle.scales.proofs.Reached.{same_epoch, same_scale}
 use Rattle.image.specs.declared.table.Table.{Table}
 use Rattle.blocks.specs.Judging.{judged}
 use Rattle.dates.specs.declared.reading.Reading.{Reading}
@@ -49,7 +49,7 @@ module _ (epoch : Epoch) (steps : ℕ) where
   pub came_to : (kept : Option Table) (cs : List ℤ) (done : ℕ) (start : Epoch)
       → walk_of kept cs [] done start ≡ converted_to epoch steps → start ≡ epoch
   unfolding walk_of
-  came_to kept cs done start e = cc
+  came_to kept cs done start e = same_epoch e
 
   -- and the scale is where the path led
   pub scale_walked : (kept : Option Table) (cs : List ℤ) (p : List Step) (to : Scale) (done : ℕ) (start : Epoch)
