@@ -29,14 +29,7 @@ fn batch_taken(
 {
     let coefficients = taken(bytes, table);
     let many = how_many(table);
-    batch_over(
-        from,
-        to,
-        ticks,
-        answers,
-        Some(table),
-        &coefficients[..many],
-    )
+    batch_over(from, to, ticks, answers, Some(table), &coefficients[..many])
 }
 
 // 'then the table 10 to 16'. The lists have been found of equal length.
@@ -57,7 +50,13 @@ fn batch_crossing(
 
 // Converts ticks of the scale of the first code into ticks of the scale of the second, over the
 // table that the bytes hold: all of them, or none and the refusal.
-pub fn batch(from: u32, to: u32, ticks: &[i64], answers: &mut [i64], table: &[u8]) -> Result<u32, RefusedAt>
+pub fn batch(
+    from: u32,
+    to: u32,
+    ticks: &[i64],
+    answers: &mut [i64],
+    table: &[u8],
+) -> Result<u32, RefusedAt>
     ensures { HasConverted from to ticks.now answers.old
         answers.new table.now result }
 {

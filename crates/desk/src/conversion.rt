@@ -20,7 +20,13 @@ use scales::scale::{Purpose, Scale};
 use walk::walk::walk;
 
 // What was read, walked. The coefficients are those of the table that is kept.
-pub fn between(from: Scale, to: Scale, read: Result<i64, Refusal>, kept: Option<Table>, coefficients: &[i64]) -> Result<Converted, Refusal>
+pub fn between(
+    from: Scale,
+    to: Scale,
+    read: Result<i64, Refusal>,
+    kept: Option<Table>,
+    coefficients: &[i64],
+) -> Result<Converted, Refusal>
     requires { Held kept coefficients.now }
     ensures { result ≡ between_of from to read kept coefficients.now }
 {
@@ -29,7 +35,13 @@ pub fn between(from: Scale, to: Scale, read: Result<i64, Refusal>, kept: Option<
 }
 
 // Over the table that the bytes hold. They have been judged and accepted.
-fn taken_over(from: Scale, to: Scale, read: Result<i64, Refusal>, bytes: &[u8], table: Table) -> Result<Converted, Refusal>
+fn taken_over(
+    from: Scale,
+    to: Scale,
+    read: Result<i64, Refusal>,
+    bytes: &[u8],
+    table: Table,
+) -> Result<Converted, Refusal>
     requires { Opened bytes.now table }
     ensures { result ≡ taken_over from to read bytes.now table }
 {
@@ -40,7 +52,12 @@ fn taken_over(from: Scale, to: Scale, read: Result<i64, Refusal>, bytes: &[u8], 
 
 // Over any bytes. This has room for the largest table, which no other conversion should pay for: a
 // compiler keeps it apart as long as two functions call it, one for a tick and one for a refusal.
-fn over_bytes(from: Scale, to: Scale, read: Result<i64, Refusal>, bytes: &[u8]) -> Result<Converted, Refusal>
+fn over_bytes(
+    from: Scale,
+    to: Scale,
+    read: Result<i64, Refusal>,
+    bytes: &[u8],
+) -> Result<Converted, Refusal>
     ensures { result ≡ over_bytes from to read bytes.now }
 {
     let table = judge(bytes)?;
@@ -100,13 +117,25 @@ pub fn convert_into(
 }
 
 // The same into ticks.
-pub fn convert(from: u32, to: u32, reading: Reading, leaps: &[i64], table: &[u8]) -> Result<Converted, Refusal>
+pub fn convert(
+    from: u32,
+    to: u32,
+    reading: Reading,
+    leaps: &[i64],
+    table: &[u8],
+) -> Result<Converted, Refusal>
     ensures { result ≡ convert_of from to reading leaps.now table.now }
 {
     convert_into(Purpose::Reading, from, to, reading, leaps, table)
 }
 
-fn crossed(from: Scale, to: Scale, read: Result<i64, Refusal>, judged: Result<Table, Refusal>, coefficients: &[i64]) -> Result<Converted, Refusal>
+fn crossed(
+    from: Scale,
+    to: Scale,
+    read: Result<i64, Refusal>,
+    judged: Result<Table, Refusal>,
+    coefficients: &[i64],
+) -> Result<Converted, Refusal>
     requires { Lent judged coefficients.now }
     ensures { result ≡ crossed_of from to read judged coefficients.now }
 {

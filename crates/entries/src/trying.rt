@@ -63,7 +63,13 @@ fn is_accepted(from: Scale, to: Scale, tick: i64, kept: Option<Table>, coefficie
 }
 
 // Tries the entries one by one: the earliest refusal, or the path's steps.
-fn tried_each(from: Scale, to: Scale, ticks: &[i64], kept: Option<Table>, coefficients: &[i64]) -> Result<u32, RefusedAt>
+fn tried_each(
+    from: Scale,
+    to: Scale,
+    ticks: &[i64],
+    kept: Option<Table>,
+    coefficients: &[i64],
+) -> Result<u32, RefusedAt>
     requires { Held kept coefficients.now }
     ensures { result ≡ all_tried from to ticks.now kept coefficients.now }
 {
@@ -81,7 +87,13 @@ fn tried_each(from: Scale, to: Scale, ticks: &[i64], kept: Option<Table>, coeffi
 // Tries every entry: the earliest refusal, or the path's steps. The coefficients are those of the
 // table that is kept. Accepted ticks form an interval (see proofs/Interval), so that where the
 // earliest and the latest are accepted the others need not be walked.
-pub fn tried(from: Scale, to: Scale, ticks: &[i64], kept: Option<Table>, coefficients: &[i64]) -> Result<u32, RefusedAt>
+pub fn tried(
+    from: Scale,
+    to: Scale,
+    ticks: &[i64],
+    kept: Option<Table>,
+    coefficients: &[i64],
+) -> Result<u32, RefusedAt>
     requires { Held kept coefficients.now }
     ensures { result ≡ all_tried from to ticks.now kept coefficients.now }
 {

@@ -69,7 +69,13 @@ fn by_table(forth: bool, scale: Scale, tick: i64, kept: Option<Table>, coefficie
 }
 
 // A step over the table, of every tick of a list.
-fn table_all(forth: bool, scale: Scale, answers: &mut [i64], kept: Option<Table>, coefficients: &[i64])
+fn table_all(
+    forth: bool,
+    scale: Scale,
+    answers: &mut [i64],
+    kept: Option<Table>,
+    coefficients: &[i64],
+)
     requires { Held kept coefficients.now }
     ensures { answers.new
         ≡ all_by (table_by forth kept coefficients.now) answers.old }
@@ -84,7 +90,13 @@ fn table_all(forth: bool, scale: Scale, answers: &mut [i64], kept: Option<Table>
 }
 
 // One step, whichever it is.
-pub fn step_all(step: Step, scale: Scale, answers: &mut [i64], kept: Option<Table>, coefficients: &[i64])
+pub fn step_all(
+    step: Step,
+    scale: Scale,
+    answers: &mut [i64],
+    kept: Option<Table>,
+    coefficients: &[i64],
+)
     requires { Held kept coefficients.now }
     ensures { answers.new
         ≡ all_by (step_of kept coefficients.now step) answers.old }

@@ -50,7 +50,12 @@ fn next_line(line: u64) -> u64
 
 // What a line of text, given without its newline, is answered with. `line` is its number from 1,
 // the place of refusal 9.
-fn answer_to(text: &[u8], line: u64, judged: Result<Table, Refusal>, coefficients: &[i64]) -> Answered
+fn answer_to(
+    text: &[u8],
+    line: u64,
+    judged: Result<Table, Refusal>,
+    coefficients: &[i64],
+) -> Answered
     requires { Lent judged coefficients.now }
     ensures { result ≡ answered_to judged coefficients.now (line_read text.now line) }
 {

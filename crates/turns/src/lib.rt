@@ -7,8 +7,8 @@ ghost use Rattle.turns.specs.Buffers.{Waiting, Left, Buffered, Large};
 
 use blocks::judging::judge;
 use files::standard::{print, read_input};
-use lines::{answer_last, feed};
 use image::table::Table;
+use lines::{answer_last, feed};
 use opened::{how_many, taken};
 use scales::refusal::Refusal;
 

@@ -19,7 +19,12 @@ fn refused(number: u32, place: u64) -> Result<Converted, Refusal>
 
 // The step from an epoch of the scale in which it begins. What is kept has been judged and
 // accepted.
-fn take_step(step: Step, epoch: Epoch, kept: Option<Table>, coefficients: &[i64]) -> Result<Epoch, Outside>
+fn take_step(
+    step: Step,
+    epoch: Epoch,
+    kept: Option<Table>,
+    coefficients: &[i64],
+) -> Result<Epoch, Outside>
     requires { Held kept coefficients.now }
     ensures { result ≡ step_of kept coefficients.now step epoch.tick }
 {
@@ -37,7 +42,13 @@ fn take_step(step: Step, epoch: Epoch, kept: Option<Table>, coefficients: &[i64]
 
 // From epoch to epoch until the path is at its end: 'step by step, 6 before 4'. The coefficients
 // are those of the table that is kept.
-pub fn walk(from: Scale, to: Scale, start: i64, kept: Option<Table>, coefficients: &[i64]) -> Result<Converted, Refusal>
+pub fn walk(
+    from: Scale,
+    to: Scale,
+    start: i64,
+    kept: Option<Table>,
+    coefficients: &[i64],
+) -> Result<Converted, Refusal>
     requires { Held kept coefficients.now }
     ensures { result ≡ walk_between kept coefficients.now from to start }
 {

@@ -20,7 +20,13 @@ pub struct Written {
 
 // Converts a reading of any kind in the scale of the first code, over the table that the bytes
 // hold, and writes what it comes to as UTC over the list of leap seconds; or tells the refusal.
-pub fn write_utc(from: u32, to: u32, reading: Reading, leaps: &[i64], table: &[u8]) -> Result<Written, Refusal>
+pub fn write_utc(
+    from: u32,
+    to: u32,
+    reading: Reading,
+    leaps: &[i64],
+    table: &[u8],
+) -> Result<Written, Refusal>
     ensures { result ≡ write_utc_of from to reading leaps.now table.now }
 {
     let converted = convert_into(Purpose::Utc, from, to, reading, leaps, table)?;
