@@ -1,7 +1,6 @@
 -- What the functions ask of the buffers that they are lent, and what they leave in them.
 use Rattle.blocks.specs.Answers.{Judged}
 use Rattle.std.specs.Prelude.{◌≡◌, false, List, ℕ, ◌+◌, ◌*◌, ◌≤◌, ℤ, length, take}
-use Rattle.opened.specs.Opened.{Lent}
 use Rattle.printing.specs.Buffers.{longest, TextPut}
 use Rattle.lines.specs.declared.Places.{Places}
 use Rattle.line.specs.Lines.{line_read}
@@ -9,30 +8,18 @@ use Rattle.lines.specs.Output.{lines_of, line_after, printed_for, output_from, h
 use Rattle.lines.specs.Output.{whole_lines, kept_of}
 
 -- ---- a line
-pub record Answering (table : Judged) (coefficients : List ℤ) (out : List ℕ) (at : ℕ) : Type 0 where
-  pub lent : Lent table coefficients
-  pub room : at + longest ≤ length out
-
 pub record Printed (text : List ℕ) (line : ℕ) (table : Judged) (coefficients : List ℤ)
     (out : List ℕ) (at : ℕ) (out' : List ℕ) (next : ℕ) : Type 0 where
   pub put : TextPut out at (printed_for table coefficients (line_read text line)) out' next
   pub short : next ≤ at + longest
 
 -- a last line: it has no newline
-pub record Unfinished (text : List ℕ) (line : ℕ) (table : Judged) (coefficients : List ℤ)
-    (out : List ℕ) : Type 0 where
+pub record Unfinished (text : List ℕ) (line : ℕ) (out : List ℕ) : Type 0 where
   pub counted : 1 ≤ line
-  pub lent : Lent table coefficients
   pub plain : has_newline text ≡ false
   pub room : longest ≤ length out
 
 -- ---- the whole lines of a text
--- a line has at least its newline, so that this is room enough
-pub record LinesReady (text : List ℕ) (table : Judged) (coefficients : List ℤ) (out : List ℕ)
-    : Type 0 where
-  pub lent : Lent table coefficients
-  pub room : longest * length text ≤ length out
-
 pub record LinesAnswered (text : List ℕ) (first : ℕ) (table : Judged) (coefficients : List ℤ)
     (out out' : List ℕ)
     (r : Places) : Type 0 where
@@ -45,10 +32,9 @@ pub record Moving (text : List ℕ) (start end : ℕ) : Type 0 where
   pub ordered : start ≤ end
   pub inside : end ≤ length text
 
-pub record TextFilled (text : List ℕ) (filled first : ℕ) (table : Judged) (coefficients : List ℤ)
-    (out : List ℕ) : Type 0 where
+-- a line has at least its newline, so that this is room enough
+pub record TextFilled (text : List ℕ) (filled first : ℕ) (out : List ℕ) : Type 0 where
   pub counted : 1 ≤ first
-  pub lent : Lent table coefficients
   pub inside : filled ≤ length text
   pub room : longest * length text ≤ length out
 

@@ -4,16 +4,16 @@
 // line no more than 65 bytes are kept, since with any more behind them it is too long anyway.
 #![tactic(auto)]
 
-ghost use Rattle.std.specs.Prelude.{◌≡◌, take, drop};
-ghost use Rattle.opened.specs.Opened.{Lent};
-ghost use Rattle.line.specs.Lines.{line_read};
-ghost use Rattle.printing.specs.Buffers.{TextPut};
-ghost use Rattle.lines.specs.Output.{next_line, answered_to, output_from};
-ghost use Rattle.lines.specs.Buffers.{Answering, Printed, Unfinished, LinesReady, LinesAnswered};
-ghost use Rattle.lines.specs.Buffers.{Moving, TextFilled, Fed};
+pub mod over;
 
+ghost use Rattle.std.specs.Prelude.{◌≡◌, ◌≤◌, ◌+◌, ◌*◌, length, take, drop};
+ghost use Rattle.line.specs.Lines.{line_read};
+ghost use Rattle.printing.specs.Buffers.{TextPut, longest};
+ghost use Rattle.lines.specs.Output.{next_line, answered_to, output_from};
+ghost use Rattle.lines.specs.Buffers.{Printed, Unfinished, LinesAnswered, Moving, TextFilled, Fed};
+
+use crate::over::Over;
 use desk::conversion::convert_judged;
-use image::table::Table;
 use line::reading::{code_of, read_line};
 use printing::writing::write_line;
 use scales::answer::Converted;
@@ -50,14 +50,8 @@ fn next_line(line: u64) -> u64
 
 // What a line of text, given without its newline, is answered with. `line` is its number from 1,
 // the place of refusal 9.
-fn answer_to(
-    text: &[u8],
-    line: u64,
-    judged: Result<Table, Refusal>,
-    coefficients: &[i64],
-) -> Answered
-    requires { Lent judged coefficients.now }
-    ensures { result ≡ answered_to judged coefficients.now (line_read text.now line) }
+fn answer_to(text: &[u8], line: u64, over: Over) -> Answered
+    ensures { result ≡ answered_to over.entry.judged over.entry.coefficients.now (line_read text.now line) }
 {
     match read_line(text, line) {
         Ok(numbers) => {
@@ -66,8 +60,8 @@ fn answer_to(
                 code_of(numbers.from),
                 code_of(numbers.to),
                 numbers.tick,
-                judged,
-                coefficients,
+                over.judged,
+                over.coefficients,
             );
             Answered {
                 to: numbers.to,
@@ -82,47 +76,32 @@ fn answer_to(
 }
 
 // Puts the line that answers a line of text.
-fn answer_line(
-    text: &[u8],
-    line: u64,
-    judged: Result<Table, Refusal>,
-    coefficients: &[i64],
-    out: &mut [u8],
-    at: usize,
-) -> usize
-    requires { Answering judged coefficients.now out.old at }
-    ensures { Printed text.now line judged coefficients.now out.old at
+fn answer_line(text: &[u8], line: u64, over: Over, out: &mut [u8], at: usize) -> usize
+    requires { at + longest ≤ length out.old }
+    ensures { Printed text.now line over.entry.judged over.entry.coefficients.now out.old at
         out.new result }
 {
-    let answered = answer_to(text, line, judged, coefficients);
+    let answered = answer_to(text, line, over);
     let answer = answered.answer;
     write_line(out, at, answered.to, answer)
 }
 
 // Answers the whole lines of a text, from the front of `out` on: where the unfinished line begins,
 // where the output ends, and the unfinished line's number. `first` is the first line's.
-fn answer_whole(
-    text: &[u8],
-    first: u64,
-    judged: Result<Table, Refusal>,
-    coefficients: &[i64],
-    out: &mut [u8],
-) -> Places
-    requires { LinesReady text.now judged coefficients.now out.old }
-    ensures { LinesAnswered text.now first judged coefficients.now
+fn answer_whole(text: &[u8], first: u64, over: Over, out: &mut [u8]) -> Places
+    requires { longest * length text.now ≤ length out.old }
+    ensures { LinesAnswered text.now first over.entry.judged over.entry.coefficients.now
         out.old out.new result }
 {
     let mut start = 0;
     let mut end = 0;
     let mut line = first;
-    let mut i = 0;
-    while i < text.len() {
-        if text[i] == b'\n' {
-            end = answer_line(&text[start..i], line, judged, coefficients, out, end);
+    for (i, byte) in text.iter().enumerate() {
+        if *byte == b'\n' {
+            end = answer_line(&text[start..i], line, over, out, end);
             line = next_line(line);
             start = i + 1;
         }
-        i += 1;
     }
     Places {
         text: start,
@@ -131,6 +110,9 @@ fn answer_whole(
     }
 }
 
+// A line that has as many is too long, whatever follows.
+const MOST_KEPT: usize = 65;
+
 // Moves the first 65 bytes from `start` on, or as many as there are before `end`, to the front, and
 // answers how many they are.
 fn keep(text: &mut [u8], start: usize, end: usize) -> usize
@@ -138,33 +120,24 @@ fn keep(text: &mut [u8], start: usize, end: usize) -> usize
     ensures { TextPut text.old 0 (take 65 (drop start (take end text.old)))
         text.new result }
 {
-    let mut kept = 0;
-    while kept < 65 {
+    for kept in 0..MOST_KEPT {
         if start + kept >= end {
             return kept;
         }
         text[kept] = text[start + kept];
-        kept += 1;
     }
-    kept
+    MOST_KEPT
 }
 
 // Answers the whole lines of the text's first `filled` bytes, and keeps the start of the unfinished
 // one at the front of the text: how much of it is kept, where the output ends, and the unfinished
 // line's number. `first` is the first line's, counted from 1 over the whole input.
-pub fn feed(
-    text: &mut [u8],
-    filled: usize,
-    first: u64,
-    judged: Result<Table, Refusal>,
-    coefficients: &[i64],
-    out: &mut [u8],
-) -> Places
-    requires { TextFilled text.old filled first judged coefficients.now out.old }
-    ensures { Fed text.old filled first judged coefficients.now out.old
+pub fn feed(text: &mut [u8], filled: usize, first: u64, over: Over, out: &mut [u8]) -> Places
+    requires { TextFilled text.old filled first out.old }
+    ensures { Fed text.old filled first over.entry.judged over.entry.coefficients.now out.old
         text.new out.new result }
 {
-    let whole = answer_whole(&text[..filled], first, judged, coefficients, out);
+    let whole = answer_whole(&text[..filled], first, over, out);
     let kept = keep(text, whole.text, filled);
     Places {
         text: kept,
@@ -176,20 +149,14 @@ pub fn feed(
 // Answers the last line, which has no newline, if there is any of it: 'the last newline may be
 // missing'. `line` is its number.
 #[tactic(auto, using(crate::proofs::Pieces::empty), unfolding(printing::specs::Buffers::with_text))]
-pub fn answer_last(
-    text: &[u8],
-    line: u64,
-    judged: Result<Table, Refusal>,
-    coefficients: &[i64],
-    out: &mut [u8],
-) -> usize
-    requires { Unfinished text.now line judged coefficients.now out.old }
+pub fn answer_last(text: &[u8], line: u64, over: Over, out: &mut [u8]) -> usize
+    requires { Unfinished text.now line out.old }
     ensures { TextPut out.old 0
-        (output_from line judged coefficients.now text.now)
+        (output_from line over.entry.judged over.entry.coefficients.now text.now)
         out.new result }
 {
     if text.len() == 0 {
         return 0;
     }
-    answer_line(text, line, judged, coefficients, out, 0)
+    answer_line(text, line, over, out, 0)
 }

@@ -1,7 +1,5 @@
 -- What the program's functions ask of the buffers that they are lent, and what they leave in them.
-use Rattle.blocks.specs.Answers.{Judged}
 use Rattle.std.specs.Prelude.{◌≡◌, false, List, ℕ, ◌*◌, ◌≤◌, ℤ, length, take}
-use Rattle.opened.specs.Opened.{Lent}
 use Rattle.printing.specs.Buffers.{longest}
 use Rattle.lines.specs.Output.{has_newline}
 use Rattle.turns.specs.declared.Outcome.{Outcome}
@@ -12,20 +10,14 @@ pub record Large (text out : List ℕ) : Type 0 where
   pub long : 66 ≤ length text
   pub room : longest * length text ≤ length out
 
-pub record Buffered (text : List ℕ) (table : Judged) (coefficients : List ℤ) (out : List ℕ)
-    : Type 0 where
-  pub lent : Lent table coefficients
-  pub large : Large text out
-
 -- an unfinished line that is kept at the front of the text, and its number: 'line, from 1'
 pub record Front (text : List ℕ) (kept line : ℕ) : Type 0 where
   pub few : kept ≤ 65
   pub plain : has_newline (take kept text) ≡ false
   pub counted : 1 ≤ line
 
-pub record Waiting (text : List ℕ) (kept line : ℕ) (table : Judged) (coefficients : List ℤ)
-    (out : List ℕ) : Type 0 where
-  pub buffers : Buffered text table coefficients out
+pub record Waiting (text : List ℕ) (kept line : ℕ) (out : List ℕ) : Type 0 where
+  pub buffers : Large text out
   pub front : Front text kept line
 
 -- what a turn leaves of the text: another unfinished line, or the one that was kept

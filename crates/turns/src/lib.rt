@@ -3,14 +3,13 @@
 // library `lines`; the system is asked in the library `files` alone.
 #![tactic(auto)]
 
-ghost use Rattle.turns.specs.Buffers.{Waiting, Left, Buffered, Large};
+ghost use Rattle.turns.specs.Buffers.{Waiting, Left, Large};
 
 use blocks::judging::judge;
 use files::standard::{print, read_input};
-use image::table::Table;
+use lines::over::Over;
 use lines::{answer_last, feed};
 use opened::{how_many, taken};
-use scales::refusal::Refusal;
 
 // What a turn leaves: how many bytes of an unfinished line, and its number; or that the input has
 // ended, or that nothing more can be printed.
@@ -28,18 +27,17 @@ fn turn(
     text: &mut [u8],
     kept: usize,
     line: u64,
-    judged: Result<Table, Refusal>,
-    coefficients: &[i64],
+    over: Over,
     out: &mut [u8],
 ) -> Outcome
-    requires { Waiting text.old kept line judged coefficients.now out.old }
+    requires { Waiting text.old kept line out.old }
     ensures { Left kept line text.new result }
 {
     let more = read_input(rt, &mut text[kept..]);
     if more == 0 {
         return Outcome::Ended;
     }
-    let places = feed(text, kept + more, line, judged, coefficients, out);
+    let places = feed(text, kept + more, line, over, out);
     let end = places.out;
     if print(rt, &out[..end]) == end {
         return Outcome::Kept(places.text, places.line);
@@ -48,27 +46,25 @@ fn turn(
 }
 
 // Turn by turn until the input ends; then the last line, if its newline is missing. The lines are
-// counted from 1, over all turns. The turns are counted down from a number that no run uses up.
+// counted from 1, over all turns. There are more turns than any run takes.
 fn run(
     rt: &(impl Input + Print + Eprint),
     text: &mut [u8],
-    judged: Result<Table, Refusal>,
-    coefficients: &[i64],
+    over: Over,
     out: &mut [u8],
 )
-    requires { Buffered text.old judged coefficients.now out.old }
+    requires { Large text.old out.old }
 {
     let mut kept = 0;
     let mut line = 1;
-    let mut turns = u64::MAX;
-    while turns > 0 {
-        match turn(rt, text, kept, line, judged, coefficients, out) {
+    for _turn in 0..u64::MAX {
+        match turn(rt, text, kept, line, over, out) {
             Outcome::Kept(size, number) => {
                 kept = size;
                 line = number;
             }
             Outcome::Ended => {
-                let end = answer_last(&text[..kept], line, judged, coefficients, out);
+                let end = answer_last(&text[..kept], line, over, out);
                 print(rt, &out[..end]);
                 return;
             }
@@ -76,7 +72,6 @@ fn run(
                 return;
             }
         }
-        turns -= 1;
     }
 }
 
@@ -87,10 +82,14 @@ pub fn run_over(rt: &(impl Input + Print + Eprint), bytes: &[u8], text: &mut [u8
     let judged = judge(bytes);
     match judged {
         Ok(table) => {
-            let coefficients = taken(bytes, table);
+            let room = taken(bytes, table);
             let many = how_many(table);
-            run(rt, text, judged, &coefficients[..many], out);
+            let coefficients = &room[..many];
+            run(rt, text, Over { judged, coefficients }, out);
         }
-        Err(_) => run(rt, text, judged, &[], out),
+        Err(_) => {
+            let coefficients = &[];
+            run(rt, text, Over { judged, coefficients }, out);
+        }
     }
 }

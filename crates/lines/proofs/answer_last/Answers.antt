@@ -8,4 +8,4 @@ use Rattle.lines.proofs.answer_last.Goals as goal
 pub returns : goal.returns
 returns c =
     let some : 1 ≤ length c.args.text.now = omega arith in
-    rw (output_last c.args.judged c.args.coefficients.now c.args.line c.args.text.now c.requires.plain some) c.answer_line.ensures.put
+    rw (output_last c.args.over.judged c.args.over.coefficients.now c.args.line c.args.text.now c.requires.plain some) c.answer_line.ensures.put

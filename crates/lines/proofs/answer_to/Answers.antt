@@ -39,8 +39,8 @@ returns-in-Ok c =
     let to_is = to_z-of_z w64 found.to (record { sfits = search rules }) in
     let tick_is = to_z-of_z w64 found.tick (record { sfits = search rules }) in
     ap (λ (to : ℤ). record { to = to; answer = c.convert_judged-answer.result }) to_is
-    ∙ understood c.args.judged c.args.coefficients.now (sym c.read_line.ensures ∙ c.in-Ok.is) (c.code_of.ensures ∙ ap code_of from_is)
+    ∙ understood c.args.over.judged c.args.over.coefficients.now (sym c.read_line.ensures ∙ c.in-Ok.is) (c.code_of.ensures ∙ ap code_of from_is)
     (c.code_of-in-Ok.ensures ∙ ap code_of to_is) (rw tick_is at c.convert_judged-answer.ensures)
 
 pub returns-in-Err : goal.returns-in-Err
-returns-in-Err c = refused c.args.judged c.args.coefficients.now (sym c.read_line.ensures ∙ c.in-Err.is)
+returns-in-Err c = refused c.args.over.judged c.args.over.coefficients.now (sym c.read_line.ensures ∙ c.in-Err.is)

@@ -128,18 +128,10 @@ pub slice_bounds-answer_line-end : goal.slice_bounds-answer_line-end
 slice_bounds-answer_line-end c = c.loop-i.invariant.inside
 
 pub answer_line-end-requires : goal.answer_line-end-requires
-answer_line-end-requires c =
-    let pre = c.requires in
-    record {
-      lent = pre.lent;
-      room = ready c.loop-i.invariant pre.room c.loop-i-test.true;
-    }
+answer_line-end-requires c = ready c.loop-i.invariant c.requires c.loop-i-test.true
 
 pub next_line-line-requires : goal.next_line-line-requires
 next_line-line-requires c = tt
-
-pub overflow_add-i : goal.overflow_add-i
-overflow_add-i c = omega arith
 
 pub loop-i-smaller : goal.loop-i-smaller
 loop-i-smaller c = omega arith
@@ -148,14 +140,14 @@ loop-i-smaller c = omega arith
 pub loop-i-preserved : goal.loop-i-preserved
 loop-i-preserved c =
     let p = c.loop-i.invariant in
-    let room = c.requires.room in
+    let room = c.requires in
     let more = c.loop-i-test.true in
     let other = on p room more in
     let newline = at_newline p room more in
     grind (arith, other, newline)
 
 pub shape_of-out : goal.shape_of-out
-shape_of-out c = same c.loop-i.invariant c.requires.room
+shape_of-out c = same c.loop-i.invariant c.requires
 
 pub returns : goal.returns
 returns c = at_last c.loop-i.invariant c.loop-i-test.false

@@ -19,7 +19,7 @@ pub record Passed (text : List ℕ) (first : ℕ) (table : Judged) (coefficients
   pub few : end ≤ longest * start
 
 abbrev pub invariant-loop-i : goal.invariant-loop-i
-invariant-loop-i l = Passed l.text l.first l.judged l.coefficients l.initial.out l.out l.start l.end l.line l.i
+invariant-loop-i l = Passed l.text l.first l.over.judged l.over.coefficients.now l.initial.out l.out l.start l.end l.line l.i
 
 abbrev pub decreases-loop-i : goal.decreases-loop-i
 decreases-loop-i l = length l.text - l.i

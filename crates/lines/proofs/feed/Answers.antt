@@ -17,7 +17,7 @@ slice_bounds-answer_whole-end-2 c = sym (size (goal.at.slice_bounds-answer_whole
 
 pub answer_whole-whole-requires : goal.answer_whole-whole-requires
 answer_whole-whole-requires c =
-    record { lent = c.requires.lent; room = omega (arith, size (goal.at.answer_whole-whole-requires c).Start, c.requires.inside, c.requires.room) }
+    omega (arith, size (goal.at.answer_whole-whole-requires c).Start, c.requires.inside, c.requires.room)
 
 pub keep-kept-requires : goal.keep-kept-requires
 keep-kept-requires c =

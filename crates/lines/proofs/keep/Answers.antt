@@ -62,8 +62,8 @@ module _ {text₀ : List ℕ} {start end : ℕ} (moving : Moving text₀ start e
         take_all 65 (part text₀ start end) (omega (arith, moved.few)) ∙ sym (take_all kept (part text₀ start end) (omega arith)) in
         rw e moved.put
 
-    full : 65 ≤ kept → TextPut text₀ 0 (take 65 (part text₀ start end)) text kept
-    full h = let e : 65 ≡ kept = omega (arith, moved.few) in rw (ap (λ (n : ℕ). take n (part text₀ start end)) e) moved.put
+    full : 65 ≤ kept → TextPut text₀ 0 (take 65 (part text₀ start end)) text 65
+    full h = let e : kept ≡ 65 = omega (arith, moved.few) in rw e at moved.put
 
 pub loop-kept-init : goal.loop-kept-init
 loop-kept-init c = at_first c.requires

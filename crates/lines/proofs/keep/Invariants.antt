@@ -18,6 +18,3 @@ pub record Moved (text₀ : List ℕ) (start end : ℕ) (text : List ℕ) (kept 
 
 abbrev pub invariant-loop-kept : goal.invariant-loop-kept
 invariant-loop-kept l = Moved l.initial.text l.start l.end l.text l.kept
-
-abbrev pub decreases-loop-kept : goal.decreases-loop-kept
-decreases-loop-kept l = 65 - l.kept

@@ -7,8 +7,8 @@ use Rattle.lines.proofs.Parts.{put_inside}
 use Rattle.turns.proofs.Fronts.{front_nothing}
 use Rattle.turns.proofs.run.Goals as goal
 
-pub loop-turns-init : goal.loop-turns-init
-loop-turns-init g c =
+pub loop-turn-init : goal.loop-turn-init
+loop-turn-init g c =
     record { buffers = c.requires; front = front_nothing c.args.text.now _ (omega arith) }
 
 pub slice_bounds-print-end : goal.slice_bounds-print-end

@@ -4,11 +4,10 @@ use mathlib.Core.Path.{◌∙◌, sym}
 use Rattle.opened.proofs.Opening.{table_lent}
 use Rattle.turns.proofs.run_over.Goals as goal
 
-pub run-requires : goal.run-requires
-run-requires g c =
+pub invariant_of-run : goal.invariant_of-run
+invariant_of-run g c =
     record {
       lent =
-          rw (c.how_many-many.ensures, c.taken-coefficients.ensures.front)
+          rw (c.how_many-many.ensures, c.taken-room.ensures.front)
           (table_lent _ _ (sym c.judge-judged.ensures ∙ c.in-Ok.is));
-      large = c.requires;
     }
