@@ -1,4 +1,4 @@
--- What two clocks drift apart, and what the kernels of the linear steps ask.
+-- What two clocks drift apart, and what is asked of a drift and of the tick up to which it is told.
 use Rattle.std.specs.Prelude.{ℕ, ◌≤◌, ℤ, pos, nat_abs, ◌+ℤ◌, ◌-ℤ◌}
 use Rattle.pieces.specs.Asked.{Narrow}
 use Rattle.pieces.specs.Rows.{share_of}

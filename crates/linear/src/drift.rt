@@ -1,5 +1,4 @@
-// How far two clocks drift apart: the kernels of the four steps that are no mere shift, in unsigned
-// 64-bit numbers.
+// How far two clocks drift apart: what the four steps that are no mere shift add or take off.
 //
 // TT and TDB run slower than TCG and TCB by L/D, where L/D is L_G = 3484645067 / (5·10^18) and L_B
 // = 193814971 / (125·10^14), both reduced. A slow clock loses L/D of the fast clock's ticks, and a
@@ -9,21 +8,21 @@
 //
 // A share of b, L/D or L/E of it, is one rounded product with a row of numbers: M is L·2^s / D, or
 // L·2^s / E, rounded down, which is exact to the tick for every count of ticks that can come (the
-// law is `exact_share` of `pieces`, and each proof tests its row). So nothing is divided, and no
-// number is wider than 64 bits.
+// law is `exact_share` of `pieces`, and `proofs/Fractions.antt` tests each row). So nothing is
+// divided, and no number is wider than 64 bits.
 ghost use Rattle.std.specs.Prelude.{◌≡◌, ◌≤◌, pos, nat_abs, ◌+ℤ◌};
 ghost use Rattle.linear.specs.Drift.{Biased, Little, drift_at};
 
 use pieces::share::{Row, share};
 
-// A clock's drift from another: what it loses or gains over so many ticks of that one, by a row for
-// its share of them. They are counted from `bias` ticks before tick 0, and what is lost or gained
-// over these is known.
+// How far a clock has drifted from another: what it loses or gains over so many of that clock's
+// ticks, as their share by a row. They are counted from `bias` ticks before tick 0, and what is
+// lost or gained up to tick 0 is known, and taken off again.
 #[derive(Clone, Copy, Debug, PartialEq, Eq)]
 pub struct Drift {
-    pub row: Row,
-    pub bias: u64,
-    pub known: i64,
+    row: Row,
+    bias: u64,
+    known: i64,
 }
 
 // What TT loses over ticks of TCG: L·b / D to the nearest, a half to the lesser, since it is taken

@@ -27,7 +27,8 @@ fewer row b m h =
     le-div (n / unit row) (m * factor row + half_unit row) (unit row) (pow_pos (96 + row.by))
     (omega (arith, div-mul-le_self n (unit row), mul-le-mul_right (factor row) h))
 
-difference_size : (q : ℕ) → q ≤ 1000000000000 → (k : ℤ) → nat_abs k ≤ 1000000000000 → nat_abs (pos q -ℤ k) ≤ 2000000000000
+difference_size : (q : ℕ) → q ≤ 1000000000000 → (k : ℤ) → nat_abs k ≤ 1000000000000
+    → nat_abs (pos q -ℤ k) ≤ 2000000000000
 difference_size q h = rep _ (λ a b. simp lin (omega arith))
 
 -- d up to t, of which q is the share of b ticks
