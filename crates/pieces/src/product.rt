@@ -6,7 +6,8 @@ use crate::halves::{halves, joined};
 
 // x·y and an addend, whole. A column is a product of two pieces and two pieces more, of which the
 // upper half is carried: at most (2^32 − 1)² + 2·(2^32 − 1), which is 2^64 − 1. The addend goes in
-// with the low products, where there is room for it.
+// with the low products, where there is room for it. (A loop over the two rows would carry as many
+// names as the four columns have.)
 pub fn multiply(x: u64, y: u64, addend: u64) -> [u32; 4]
     ensures { value result ≡ x * y + addend }
 {
@@ -26,6 +27,7 @@ pub fn add(p: [u32; 4], q: [u32; 4]) -> [u32; 4]
 {
     let mut sum = [0; 4];
     let mut carry = false;
+    // One index, since it goes over three arrays.
     for i in 0..4 {
         (sum[i], carry) = p[i].carrying_add(q[i], carry);
     }

@@ -21,7 +21,8 @@ fn piece(z: i64) -> u32
     halves(z.cast_unsigned()).0
 }
 
-// A factor times a piece, signed or not, and little more.
+// A factor times a piece, signed or not, and little more: std's `carrying_mul_add` is of unsigned
+// numbers alone.
 fn column(x: i64, y: i64, more: i64) -> i64
     requires { SignedColumn x y more }
     ensures { result ≡ x *ℤ y +ℤ more }
