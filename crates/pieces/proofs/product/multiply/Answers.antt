@@ -23,10 +23,10 @@ returns c =
     let xs = c.halves-x0 in
     let ys = c.halves-y0 in
     let added = c.halves-a0 in
-    let low = column _ _ _ _ _ _ (search rules) c.carrying_mul_add-low.ensures in
-    let mid = column _ _ _ _ _ _ (search rules) c.carrying_mul_add-mid.ensures in
-    let side = column _ _ _ _ _ _ (search rules) c.carrying_mul_add-side.ensures in
-    let high = column _ _ _ _ _ _ (search rules) c.carrying_mul_add-high.ensures in
+    let low = column _ _ _ _ added.result.0 0 (search rules) c.carrying_mul_add-low.ensures in
+    let mid = column _ _ _ _ added.result.1 c.carrying_mul_add-low.result.1 (search rules) c.carrying_mul_add-mid.ensures in
+    let side = column _ _ _ _ c.carrying_mul_add-mid.result.0 0 (search rules) c.carrying_mul_add-side.ensures in
+    let high = column _ _ _ _ c.carrying_mul_add-mid.result.1 c.carrying_mul_add-side.result.1 (search rules) c.carrying_mul_add-high.ensures in
     rw (high.high, high.low, side.low, side.high, mid.low, mid.high, low.low, low.high)
     (rw (xs.ensures.low, xs.ensures.high, ys.ensures.low, ys.ensures.high, added.ensures.low, added.ensures.high)
     (product_is 2 (x % base ∷ x / base ∷ []) (y % base ∷ y / base ∷ []) (more % base ∷ more / base ∷ []) (lit≤ tt) (lit≤ tt)
