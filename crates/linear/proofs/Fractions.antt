@@ -1,19 +1,24 @@
--- The linear steps in the kernels' terms: a shift is exact, and the four drifting steps are 01's
--- own fractions with the common factor 2 or 8 taken out and a law of `Rates` put in. The premises
--- are what the kernels ensure; `bias` and `known` are the code's constants, with what they have to
--- be. Assumes nothing.
+-- The linear steps in the code's terms: a shift is exact, and the four drifting steps are 01's own
+-- fractions with the common factor 2 or 8 taken out and a law of `Rates` put in. The share of each
+-- drift is a rounded quotient, since its row passes the test; `bias` and `known` are the code's
+-- constants, with what they have to be. Assumes nothing.
 use mathlib.Core.Path.{◌≡◌, refl, sym, ◌∙◌, ap}
 use Prim.Native.Nat.{ℕ, ◌+◌, ◌*◌, ◌-◌, ◌/◌, ◌≤◌}
 use native.Mathlib.Omega.{arith}
-use lib.Dec.{lit<}
+use lib.Dec.{lit<, lit≤}
 use lib.IntN.{ℤ, pos, negsuc, nat_abs, ◌+ℤ◌, ◌-ℤ◌, ◌*ℤ◌, +ℤ_idr}
 use lib.Signed.{◌≤ℤ◌, ◌<ℤ◌}
 use Rattle.numbers.specs.Rounding.{nearest}
-use Rattle.numbers.proofs.Differences.{rep, rep₃, lin}
+use Rattle.numbers.proofs.Differences.{rep, rep₃, lin, sizes}
 use Rattle.numbers.proofs.Ring.{*-assoc, one-*}
 use Rattle.numbers.proofs.Rounding.{nearest_is, nearest_plus, nearest_reduced}
 use Rattle.scales.specs.Tick.{furthest}
 use Rattle.scales.specs.Linear.{nearest_tick, exact, tcg_to_tt, tcb_to_tdb, inverse}
+use Rattle.pieces.specs.Rows.{share_of}
+use Rattle.pieces.proofs.Rows.{exact_share}
+use Rattle.linear.specs.declared.drift.Drift.{Drift}
+use Rattle.linear.specs.declared.drift.TheConstants.{TT_LOSES, TDB_LOSES, TCG_GAINS, TCB_GAINS}
+use Rattle.linear.specs.Drift.{drift_at}
 use Rattle.linear.proofs.Rates.{slowed, quickened}
 
 -- the reduced rates: L, D and E = D − L of the geocentric and of the barycentric pair
@@ -53,7 +58,7 @@ shifted t by = sym (whole (pos 1 *ℤ t +ℤ by) ∙ ap (λ (z : ℤ). z +ℤ by
 swapped : (x y z : ℤ) → x +ℤ y -ℤ z ≡ x -ℤ z +ℤ y
 swapped = rep₃ _ (λ a b c d e f. simp lin (omega arith))
 
--- the ticks counted from a bias fit the kernels
+-- the ticks counted from a bias are as many as a row is exact for
 pub count_small : (t : ℤ) (b bias : ℕ) → nat_abs t ≤ furthest → bias ≤ 10000000000000000000 → pos b ≡ t +ℤ pos bias
     → b ≤ 16000000000000000000
 count_small t b bias =
@@ -120,3 +125,64 @@ module _ (t : ℤ) (b q bias known : ℕ) (count : pos b ≡ t +ℤ pos bias) wh
       ∙ sym (quickened bary_d bary_l bary_e 481 6249999903092514 refl (t +ℤ pos 65500) b q refl (count ∙ further t eb) f)
       ∙ sym (nearest_reduced (pos bary_d *ℤ (t +ℤ pos 65500)) bary_e 8 (lit< tt) (lit< tt))
       ∙ ap (λ (z : ℤ). nearest z (8 * bary_e)) (tcb_exact t)
+
+-- ---- the four drifts: the share of each is a rounded quotient, for every count that can come
+abbrev most : ℕ
+most = 16000000000000000000
+
+pub tt_share : (b : ℕ) → b ≤ most
+    → share_of TT_LOSES.row b ≡ (b * 3484645067 + 2499999999999999999) / 5000000000000000000
+tt_share = exact_share 3484645067 5000000000000000000 2499999999999999999 most TT_LOSES.row tt
+
+pub tdb_share : (b : ℕ) → b ≤ most
+    → share_of TDB_LOSES.row b ≡ (b * 193814971 + 6249999999999999) / 12500000000000000
+tdb_share = exact_share 193814971 12500000000000000 6249999999999999 most TDB_LOSES.row tt
+
+pub tcg_share : (b : ℕ) → b ≤ most
+    → share_of TCG_GAINS.row b ≡ (b * 3484645067 + 2499999998257677466) / 4999999996515354933
+tcg_share = exact_share 3484645067 4999999996515354933 2499999998257677466 most TCG_GAINS.row tt
+
+pub tcb_share : (b : ℕ) → b ≤ most
+    → share_of TCB_GAINS.row b ≡ (b * 193814971 + 6249999903092514) / 12499999806185029
+tcb_share = exact_share 193814971 12499999806185029 6249999903092514 most TCB_GAINS.row tt
+
+-- what is taken off is what is known less the share, and what is added the share less that
+taken_off : (t : ℤ) (q k : ℕ) → t -ℤ (pos q -ℤ pos k) ≡ t +ℤ pos k -ℤ pos q
+taken_off t q k = rep (λ t. t -ℤ (pos q -ℤ pos k) ≡ t +ℤ pos k -ℤ pos q) (λ a b. simp lin (omega arith)) t
+
+added : (t : ℤ) (q k : ℕ) → t +ℤ (pos q -ℤ pos k) ≡ t +ℤ pos q -ℤ pos k
+added t q k = rep (λ t. t +ℤ (pos q -ℤ pos k) ≡ t +ℤ pos q -ℤ pos k) (λ a b. simp lin (omega arith)) t
+
+counted : (bias : ℕ) → furthest ≤ bias → (t : ℤ) → nat_abs t ≤ furthest → pos (nat_abs (t +ℤ pos bias)) ≡ t +ℤ pos bias
+counted bias enough = rep _ (λ a b. simp sizes (omega arith))
+
+module _ (t : ℤ) (near : nat_abs t ≤ furthest) where
+  -- what is known of the share of any count holds of the count up to t
+  share_at : (d : Drift) {n : ℕ → ℕ} → furthest ≤ d.bias → d.bias ≤ 10000000000000000000
+      → ((b : ℕ) → b ≤ most → share_of d.row b ≡ n b)
+      → share_of d.row (nat_abs (t +ℤ pos d.bias)) ≡ n (nat_abs (t +ℤ pos d.bias))
+  share_at d enough some is = is _ (count_small t _ d.bias near some (counted d.bias enough t near))
+
+  pub tt_is : t -ℤ drift_at TT_LOSES t ≡ nearest_tick tcg_to_tt t
+  tt_is =
+      taken_off t _ (nat_abs TT_LOSES.known)
+      ∙ tt_nearest t _ _ TT_LOSES.bias (nat_abs TT_LOSES.known) (counted TT_LOSES.bias (lit≤ tt) t near) refl refl
+      (share_at TT_LOSES (lit≤ tt) (lit≤ tt) tt_share)
+
+  pub tcg_is : t +ℤ drift_at TCG_GAINS t ≡ nearest_tick (inverse tcg_to_tt) t
+  tcg_is =
+      added t _ (nat_abs TCG_GAINS.known)
+      ∙ tcg_nearest t _ _ TCG_GAINS.bias (nat_abs TCG_GAINS.known) (counted TCG_GAINS.bias (lit≤ tt) t near) refl refl
+      (share_at TCG_GAINS (lit≤ tt) (lit≤ tt) tcg_share)
+
+  pub tdb_is : t -ℤ drift_at TDB_LOSES t ≡ nearest_tick tcb_to_tdb t
+  tdb_is =
+      taken_off t _ (nat_abs TDB_LOSES.known)
+      ∙ tdb_nearest t _ _ TDB_LOSES.bias (nat_abs TDB_LOSES.known) (counted TDB_LOSES.bias (lit≤ tt) t near) refl refl
+      (share_at TDB_LOSES (lit≤ tt) (lit≤ tt) tdb_share)
+
+  pub tcb_is : t +ℤ drift_at TCB_GAINS t ≡ nearest_tick (inverse tcb_to_tdb) t
+  tcb_is =
+      added t _ (nat_abs TCB_GAINS.known)
+      ∙ tcb_nearest t _ _ TCB_GAINS.bias (nat_abs TCB_GAINS.known) (counted TCB_GAINS.bias (lit≤ tt) t near) refl refl
+      (share_at TCB_GAINS (lit≤ tt) (lit≤ tt) tcb_share)

@@ -4,35 +4,48 @@
 use Rattle.scales.specs.Answers.{Stepped, kept_in}
 use Rattle.scales.specs.declared.answer.Outside.TheVariants as Outside
 use Rattle.std.specs.Prelude.{Err}
-use mathlib.Core.Path.{◌≡◌, ◌∙◌, ap}
+use mathlib.Core.Path.{◌≡◌, ◌∙◌, ap, subst}
 use mathlib.Core.Bool.{true, false}
-use Prim.Native.Nat.{ℕ}
+use Prim.Native.Nat.{◌≤◌}
 use native.Mathlib.Omega.{arith}
-use lib.IntN.{ℤ, pos, neg_ℤ, ◌+ℤ◌, ◌-ℤ◌}
+use lib.IntN.{ℤ, neg_ℤ, nat_abs, ◌+ℤ◌, ◌-ℤ◌}
 use mir.Syntax.{w64}
 use mir.Val.{SFits}
-use Rattle.numbers.proofs.Differences.{rep, lin}
-use Rattle.numbers.proofs.Machine.{read, read_is}
+use Rattle.numbers.proofs.Order.{size-+, abs_neg}
+use Rattle.numbers.proofs.Machine.{read, read_is, fits}
 use Rattle.scales.specs.Linear.{nearest_tick}
 use Rattle.scales.specs.Rows.{LineRow, line_step}
-use Rattle.scales.specs.Tick.{is_valid}
+use Rattle.scales.specs.Tick.{furthest, is_valid}
+use Rattle.linear.specs.declared.drift.Drift.{Drift}
+use Rattle.linear.specs.Drift.{drift_at}
 use Rattle.linear.proofs.Fractions.{shifted}
 
-only_on : (t : ℤ) (k : ℕ) → t +ℤ pos k -ℤ pos 0 ≡ t +ℤ pos k
-only_on t k = rep (λ t. t +ℤ pos k -ℤ pos 0 ≡ t +ℤ pos k) (λ a b. simp lin (omega arith)) t
+-- ---- what a method comes to from a valid tick, which is near enough that it fits
+module _ (t : ℤ) (near : nat_abs t ≤ furthest) where
+  tick_is : read t ≡ t
+  tick_is = read_is t (fits t (omega (arith, near)))
 
-only_back : (t : ℤ) (k : ℕ) → t +ℤ pos 0 -ℤ pos k ≡ t +ℤ neg_ℤ (pos k)
-only_back t k = rep (λ t. t +ℤ pos 0 -ℤ pos k ≡ t +ℤ neg_ℤ (pos k)) (λ a b. simp lin (omega arith)) t
+  moved : (x : ℤ) → nat_abs x ≤ 1000000000000000000 → read (read t +ℤ x) ≡ t +ℤ x
+  moved x little = rw tick_is (read_is (t +ℤ x) (fits (t +ℤ x) (omega (arith, size-+ t x near little))))
 
--- the result r of a shift, whose tick the code reads as t
-module _ (t r : ℤ) (ft : SFits w64 t) (fr : SFits w64 r) where
-  pub shifted_on : (k : ℕ) → r ≡ read t +ℤ pos k -ℤ pos 0
-      → read r ≡ nearest_tick (record { times = 1; over = 1; plus = pos k }) t
-  shifted_on k e = read_is r fr ∙ e ∙ rw (read_is t ft) (only_on t k ∙ shifted t (pos k))
+  -- a mere shift is exact
+  pub shift_is : (by : ℤ) → nat_abs by ≤ 1000000000000000000
+      → read (read t +ℤ by) ≡ nearest_tick (record { times = 1; over = 1; plus = by }) t
+  shift_is by little = moved by little ∙ shifted t by
 
-  pub shifted_back : (k : ℕ) → r ≡ read t +ℤ pos 0 -ℤ pos k
-      → read r ≡ nearest_tick (record { times = 1; over = 1; plus = neg_ℤ (pos k) }) t
-  shifted_back k e = read_is r fr ∙ e ∙ rw (read_is t ft) (only_back t k ∙ shifted t (neg_ℤ (pos k)))
+  -- what is gained is added, and what is lost taken off
+  module _ (d : Drift) (r : ℤ) (is : r ≡ drift_at d (read t)) (little : nat_abs r ≤ 2000000000000) where
+    drift_read : read r ≡ drift_at d t
+    drift_read = read_is r (fits r (omega (arith, little))) ∙ is ∙ ap (drift_at d) tick_is
+
+    drift_little : nat_abs (drift_at d t) ≤ 2000000000000
+    drift_little = subst (λ (x : ℤ). nat_abs x ≤ 2000000000000) (is ∙ ap (drift_at d) tick_is) little
+
+    pub gained : read (read t +ℤ read r) ≡ t +ℤ drift_at d t
+    gained = rw drift_read (moved (drift_at d t) (omega (arith, drift_little)))
+
+    pub lost : read (read t -ℤ read r) ≡ t -ℤ drift_at d t
+    lost = rw drift_read (moved (neg_ℤ (drift_at d t)) (omega (arith, abs_neg (drift_at d t), drift_little)))
 
 -- ---- a step from a tick
 module _ (row : LineRow) (t : ℤ) where

@@ -1,4 +1,4 @@
--- The identities behind the four kernels, over any rate: a slow clock's tick is the fast clock's
+-- The identities behind the four drifts, over any rate: a slow clock's tick is the fast clock's
 -- less what it loses, a fast clock's the slow clock's and what it gains, each counted from m
 -- periods before tick 0. Assumes nothing.
 use mathlib.Core.Path.{◌≡◌, ap}

@@ -1,5 +1,4 @@
-// How far two clocks drift apart: the kernels of the four steps that are no mere shift, in unsigned
-// 64-bit numbers.
+// How far two clocks drift apart: what the four steps that are no mere shift add or take off.
 //
 // TT and TDB run slower than TCG and TCB by L/D, where L/D is L_G = 3484645067 / (5·10^18) and L_B
 // = 193814971 / (125·10^14), both reduced. A slow clock loses L/D of the fast clock's ticks, and a
@@ -9,91 +8,88 @@
 //
 // A share of b, L/D or L/E of it, is one rounded product with a row of numbers: M is L·2^s / D, or
 // L·2^s / E, rounded down, which is exact to the tick for every count of ticks that can come (the
-// law is `exact_share` of `pieces`, and each proof tests its row). So nothing is divided, and no
-// number is wider than 64 bits.
-ghost use Rattle.std.specs.Prelude.{◌≡◌, pos, ◌+ℤ◌, ◌-ℤ◌, ◌≤◌, ◌+◌, ◌*◌, ◌/◌};
-ghost use Rattle.linear.specs.Drift.{Biased, Moved};
+// law is `exact_share` of `pieces`, and `proofs/Fractions.antt` tests each row). So nothing is
+// divided, and no number is wider than 64 bits.
+ghost use Rattle.std.specs.Prelude.{◌≡◌, ◌≤◌, pos, nat_abs, ◌+ℤ◌};
+ghost use Rattle.linear.specs.Drift.{Biased, Little, drift_at};
 
 use pieces::share::{Row, share};
 
-// The ticks since `bias` ticks before tick 0. The callers' tick is valid and their bias a literal.
-pub fn biased(tick: i64, bias: u64) -> u64
-    requires { Biased tick bias }
-    ensures { pos result ≡ tick +ℤ pos bias }
-{
-    if tick < 0 {
-        bias - ((-tick) as u64)
-    } else {
-        bias + (tick as u64)
+// How far a clock has drifted from another: what it loses or gains over so many of that clock's
+// ticks, as their share by a row. They are counted from `bias` ticks before tick 0, and what is
+// lost or gained up to tick 0 is known, and taken off again.
+#[derive(Clone, Copy, Debug, PartialEq, Eq)]
+pub struct Drift {
+    row: Row,
+    bias: u64,
+    known: i64,
+}
+
+// What TT loses over ticks of TCG: L·b / D to the nearest, a half to the lesser, since it is taken
+// off. The bias is 2·D, over which TT loses 2·L.
+pub const TT_LOSES: Drift = Drift {
+    row: Row {
+        m1: 803_504_446,
+        m0: 13_526_876_010_355_116_026,
+        by: 28,
+    },
+    bias: 10_000_000_000_000_000_000,
+    known: 6_969_290_134,
+};
+
+// What TDB loses over ticks of TCB, likewise, and the 65,500 by which it is behind at tick 0. The
+// bias is 480·D, over which TDB loses 480·L.
+pub const TDB_LOSES: Drift = Drift {
+    row: Row {
+        m1: 279_316_809,
+        m0: 18_000_619_092_683_907_679,
+        by: 22,
+    },
+    bias: 6_000_000_000_000_000_000,
+    known: 93_031_120_580,
+};
+
+// What TCG gains over ticks of TT: L·b / E to the nearest. E is odd, so there is no half. The bias
+// is 2·E, over which TCG gains 2·L.
+pub const TCG_GAINS: Drift = Drift {
+    row: Row {
+        m1: 803_504_447,
+        m0: 5_410_042_278_567_593_985,
+        by: 28,
+    },
+    bias: 9_999_999_993_030_709_866,
+    known: 6_969_290_134,
+};
+
+// What TCB gains over ticks of TDB, likewise, of TDB + 65,500. The bias is 481·E and those 65,500,
+// and over 481·E TCB gains 481·L.
+pub const TCB_GAINS: Drift = Drift {
+    row: Row {
+        m1: 279_316_814,
+        m0: 5_657_209_425_958_624_105,
+        by: 22,
+    },
+    bias: 6_012_499_906_775_064_449,
+    known: 93_224_935_551,
+};
+
+impl Drift {
+    // The ticks since `bias` ticks before tick 0. The callers' tick is valid and their bias a
+    // literal.
+    fn count(self, tick: i64) -> u64
+        requires { Biased tick self.bias }
+        ensures { pos result ≡ tick +ℤ pos self.bias }
+    {
+        self.bias.wrapping_add_signed(tick)
     }
-}
 
-// So many ticks on and so many back. The callers' tick is valid, and they move it by less than
-// 10^12.
-pub fn moved(tick: i64, on: u64, back: u64) -> i64
-    requires { Moved tick on back }
-    ensures { result ≡ tick +ℤ pos on -ℤ pos back }
-{
-    tick + (on as i64) - (back as i64)
-}
-
-// What TT loses over b ticks of TCG: L·b / D to the nearest, a half to the lesser, since it is
-// taken off.
-pub fn tt_loses(b: u64) -> u64
-    requires { b ≤ 16000000000000000000 }
-    ensures { result ≡ (b * 3484645067 + 2499999999999999999) / 5000000000000000000 }
-{
-    share(
-        b,
-        Row {
-            m1: 803_504_446,
-            m0: 13_526_876_010_355_116_026,
-            by: 28,
-        },
-    )
-}
-
-// What TDB loses over b ticks of TCB, likewise.
-pub fn tdb_loses(b: u64) -> u64
-    requires { b ≤ 16000000000000000000 }
-    ensures { result ≡ (b * 193814971 + 6249999999999999) / 12500000000000000 }
-{
-    share(
-        b,
-        Row {
-            m1: 279_316_809,
-            m0: 18_000_619_092_683_907_679,
-            by: 22,
-        },
-    )
-}
-
-// What TCG gains over b ticks of TT: L·b / E to the nearest. E is odd, so there is no half.
-pub fn tcg_gains(b: u64) -> u64
-    requires { b ≤ 16000000000000000000 }
-    ensures { result ≡ (b * 3484645067 + 2499999998257677466) / 4999999996515354933 }
-{
-    share(
-        b,
-        Row {
-            m1: 803_504_447,
-            m0: 5_410_042_278_567_593_985,
-            by: 28,
-        },
-    )
-}
-
-// What TCB gains over b ticks of TDB, likewise.
-pub fn tcb_gains(b: u64) -> u64
-    requires { b ≤ 16000000000000000000 }
-    ensures { result ≡ (b * 193814971 + 6249999903092514) / 12499999806185029 }
-{
-    share(
-        b,
-        Row {
-            m1: 279_316_814,
-            m0: 5_657_209_425_958_624_105,
-            by: 22,
-        },
-    )
+    // What is lost or gained up to a tick, less than 10^12 + 10^12 either way.
+    pub fn up_to(self, tick: i64) -> i64
+        requires count { Biased tick self.bias }
+        requires little { Little self }
+        ensures exact { result ≡ drift_at self tick }
+        ensures little { nat_abs result ≤ 2000000000000 }
+    {
+        share(self.count(tick), self.row) as i64 - self.known
+    }
 }

@@ -7,29 +7,35 @@ ghost use Rattle.scales.specs.Linear.{nearest_tick, gps_to_tai, tai_to_tt, tcg_t
 ghost use Rattle.scales.specs.Linear.{inverse};
 ghost use Rattle.scales.specs.Rows.{line_row, turned, line_step};
 
-use crate::drift::{biased, moved, tcb_gains, tcg_gains, tdb_loses, tt_loses};
+use crate::drift::{TCB_GAINS, TCG_GAINS, TDB_LOSES, TT_LOSES};
 use scales::answer::{Epoch, Outside, keep};
 use scales::path::Line;
 use scales::scale::Scale;
 use scales::tick::valid;
 
-#[derive(Clone, Copy)]
+#[derive(Clone, Copy, Debug, PartialEq, Eq, PartialOrd, Ord)]
 pub struct Gps(pub i64);
 
-#[derive(Clone, Copy)]
+#[derive(Clone, Copy, Debug, PartialEq, Eq, PartialOrd, Ord)]
 pub struct Tai(pub i64);
 
-#[derive(Clone, Copy)]
+#[derive(Clone, Copy, Debug, PartialEq, Eq, PartialOrd, Ord)]
 pub struct Tt(pub i64);
 
-#[derive(Clone, Copy)]
+#[derive(Clone, Copy, Debug, PartialEq, Eq, PartialOrd, Ord)]
 pub struct Tcg(pub i64);
 
-#[derive(Clone, Copy)]
+#[derive(Clone, Copy, Debug, PartialEq, Eq, PartialOrd, Ord)]
 pub struct Tdb(pub i64);
 
-#[derive(Clone, Copy)]
+#[derive(Clone, Copy, Debug, PartialEq, Eq, PartialOrd, Ord)]
 pub struct Tcb(pub i64);
+
+// How far TAI is ahead of GPS, and TT of TAI: 'TAI = GPS + 19 s', and 'TT = TAI + 32.184 s, that is
+// 32,184,000,000 ticks.'
+const TAI_AHEAD: i64 = 19_000_000_000;
+
+const TT_AHEAD: i64 = 32_184_000_000;
 
 impl Gps {
     // 'TAI = GPS + 19 s.'
@@ -37,7 +43,7 @@ impl Gps {
         requires { nat_abs self.0 ≤ furthest }
         ensures { result.0 ≡ nearest_tick gps_to_tai self.0 }
     {
-        Tai(moved(self.0, 19_000_000_000, 0))
+        Tai(self.0 + TAI_AHEAD)
     }
 }
 
@@ -47,7 +53,7 @@ impl Tai {
         requires { nat_abs self.0 ≤ furthest }
         ensures { result.0 ≡ nearest_tick (inverse gps_to_tai) self.0 }
     {
-        Gps(moved(self.0, 0, 19_000_000_000))
+        Gps(self.0 - TAI_AHEAD)
     }
 
     // 'TT = TAI + 32.184 s, that is 32,184,000,000 ticks.'
@@ -55,7 +61,7 @@ impl Tai {
         requires { nat_abs self.0 ≤ furthest }
         ensures { result.0 ≡ nearest_tick tai_to_tt self.0 }
     {
-        Tt(moved(self.0, 32_184_000_000, 0))
+        Tt(self.0 + TT_AHEAD)
     }
 }
 
@@ -65,57 +71,49 @@ impl Tt {
         requires { nat_abs self.0 ≤ furthest }
         ensures { result.0 ≡ nearest_tick (inverse tai_to_tt) self.0 }
     {
-        Tai(moved(self.0, 0, 32_184_000_000))
+        Tai(self.0 - TT_AHEAD)
     }
 
-    // 'TCG from TT and TCB from TDB are the exact inverse fractions.' The bias is 2·E, over which
-    // TCG gains 2·L.
+    // 'TCG from TT and TCB from TDB are the exact inverse fractions.'
+    #[tactic(auto, unfolding(pieces::specs::Rows::share_of))]
     fn to_tcg(self) -> Tcg
         requires { nat_abs self.0 ≤ furthest }
         ensures { result.0 ≡ nearest_tick (inverse tcg_to_tt) self.0 }
     {
-        let tick = self.0;
-        let gains = tcg_gains(biased(tick, 9_999_999_993_030_709_866));
-        Tcg(moved(tick, gains, 6_969_290_134))
+        Tcg(self.0 + TCG_GAINS.up_to(self.0))
     }
 }
 
 impl Tcg {
-    // 'TT = TCG − L_G·TCG, with L_G = 6969290134 / 10^19.' The bias is 2·D, over which TT loses
-    // 2·L.
+    // 'TT = TCG − L_G·TCG, with L_G = 6969290134 / 10^19.'
+    #[tactic(auto, unfolding(pieces::specs::Rows::share_of))]
     fn to_tt(self) -> Tt
         requires { nat_abs self.0 ≤ furthest }
         ensures { result.0 ≡ nearest_tick tcg_to_tt self.0 }
     {
-        let tick = self.0;
-        let loses = tt_loses(biased(tick, 10_000_000_000_000_000_000));
-        Tt(moved(tick, 6_969_290_134, loses))
+        Tt(self.0 - TT_LOSES.up_to(self.0))
     }
 }
 
 impl Tdb {
-    // 'TCG from TT and TCB from TDB are the exact inverse fractions': of TDB + 65,500. The bias is
-    // 481·E and those 65,500, and over 481·E TCB gains 481·L.
+    // 'TCG from TT and TCB from TDB are the exact inverse fractions.'
+    #[tactic(auto, unfolding(pieces::specs::Rows::share_of))]
     fn to_tcb(self) -> Tcb
         requires { nat_abs self.0 ≤ furthest }
         ensures { result.0 ≡ nearest_tick (inverse tcb_to_tdb) self.0 }
     {
-        let tick = self.0;
-        let gains = tcb_gains(biased(tick, 6_012_499_906_775_064_449));
-        Tcb(moved(tick, gains, 93_224_935_551))
+        Tcb(self.0 + TCB_GAINS.up_to(self.0))
     }
 }
 
 impl Tcb {
-    // 'TDB = TCB − L_B·TCB − 65,500 ticks, with L_B = 1550519768 / 10^17.' The bias is 480·D, over
-    // which TDB loses 480·L.
+    // 'TDB = TCB − L_B·TCB − 65,500 ticks, with L_B = 1550519768 / 10^17.'
+    #[tactic(auto, unfolding(pieces::specs::Rows::share_of))]
     fn to_tdb(self) -> Tdb
         requires { nat_abs self.0 ≤ furthest }
         ensures { result.0 ≡ nearest_tick tcb_to_tdb self.0 }
     {
-        let tick = self.0;
-        let loses = tdb_loses(biased(tick, 6_000_000_000_000_000_000));
-        Tdb(moved(tick, 93_031_120_580, loses))
+        Tdb(self.0 - TDB_LOSES.up_to(self.0))
     }
 }
 

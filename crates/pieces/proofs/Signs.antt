@@ -10,7 +10,7 @@ use lib.Dec.{lit<}
 use lib.ListN.{length, drop, get_or}
 use lib.IntN.{ℤ, pos, negsuc, nat_abs, ◌+ℤ◌, ◌-ℤ◌, ◌*ℤ◌, +ℤ_idl}
 use lib.Signed.{◌≤ℤ◌, ◌<ℤ◌}
-use mir.Syntax.{w32}
+use mir.Syntax.{w32, w64}
 use mir.Val.{to_z}
 use mir.ValLaws.{to_z_pos, to_z-neg}
 use Rattle.numbers.specs.Rounding.{floor_div}
@@ -81,15 +81,6 @@ within m z h = record { from = low z h; to = high z h }
 abbrev pub Short : ℤ → Type 0
 Short = Within half
 
-pub top_short : (p : ℕ) → p < base → Short (to_z w32 p)
-top_short p h = record { from = low (to_z w32 p) (raised p h); to = high (to_z w32 p) (raised p h) }
-  where
-    low : (z : ℤ) → z +ℤ pos half ≡ pos ((p + half) % base) → pos 0 ≤ℤ (z +ℤ pos half)
-    low = rep _ (λ a b. simp lin (omega arith))
-
-    high : (z : ℤ) → z +ℤ pos half ≡ pos ((p + half) % base) → z <ℤ pos half
-    high = rep _ (λ a b. simp lin (omega arith))
-
 sole : (p : ℕ) (z t : ℤ) → p < base → pos 0 ≤ℤ (z +ℤ pos half) → z <ℤ pos half → pos p ≡ z -ℤ pos base *ℤ t
     → z +ℤ pos half ≡ pos ((p + half) % base)
 sole p = rep₂ _ (λ a b c d. simp lin (omega arith))
@@ -97,6 +88,29 @@ sole p = rep₂ _ (λ a b c d. simp lin (omega arith))
 -- the low piece of a short number is the number
 sign_is : (p : ℕ) (z t : ℤ) → p < base → Short z → pos p ≡ z -ℤ pos base *ℤ t → to_z w32 p ≡ z
 sign_is p z t h s e = top_is p h ∙ sym (lowered ((p + half) % base) half z (sole p z t h s.from s.to e))
+
+-- two pieces as one number of 64 bits: the upper one counts with the sign
+upper_sign : (p q k m : ℕ) → p < base → q + suc k ≡ base → p + base * q + suc m ≡ base * base
+    → negsuc m ≡ pos p +ℤ pos base *ℤ negsuc k
+upper_sign p q k m h e f = simp lin (omega arith)
+
+pub with_sign : (p q : ℕ) → p < base → q < base
+    → to_z w64 (p + base * q) ≡ pos p +ℤ pos base *ℤ to_z w32 q
+with_sign p q h l = elim (dec_le half q) [
+  | yes k ↦
+      let j = base - suc q in
+      let m = base * base - suc (p + base * q) in
+      let e : base - suc j ≡ q = omega arith in
+      let f : base * base - suc m ≡ p + base * q = omega arith in
+      let below = ap (to_z w32) (sym e) ∙ to_z-neg w32 j (omega arith) in
+      ap (to_z w64) (sym f)
+      ∙ to_z-neg w64 m (omega arith)
+      ∙ upper_sign p q j m h (omega arith) (omega arith)
+      ∙ ap (λ (z : ℤ). pos p +ℤ pos base *ℤ z) (sym below)
+  | no k ↦
+      let u : q < half = omega arith in
+      to_z_pos w64 (p + base * q) (omega arith) ∙ simp lin (omega arith) ∙ ap (λ (z : ℤ). pos p +ℤ pos base *ℤ z) (sym (to_z_pos w32 q u))
+]
 
 -- ---- where the top bit is 0 there is no sign: the pieces stand for the same number
 pub plain : (ps : List ℕ) → Small ps → 2 * value ps < base ^ length ps → signed ps ≡ pos (value ps)

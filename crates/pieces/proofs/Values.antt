@@ -45,6 +45,14 @@ pub two_pieces : (n : ℕ) → value (n % base ∷ n / base ∷ []) ≡ n
 unfolding value
 two_pieces n = omega arith
 
+-- the low piece of a number and what is left above it, by what both stand for
+pub record Split (l h s : ℕ) : Type 0 where
+  pub low : l ≡ s % base
+  pub high : h ≡ s / base
+
+pub split : (l h s : ℕ) → l < base → l + h * base ≡ s → Split l h s
+split l h s k e = record { low = omega arith; high = omega arith }
+
 -- ---- a sum of n pieces from the i-th on, with the carry of those below
 unfoldable pub sum_from : ℕ → ℕ → ℕ → List ℕ → List ℕ → List ℕ
 sum_from zero i carry ps qs = []

@@ -1,16 +1,9 @@
 -- What the inner functions ask of their callers, so that no number is wider than 64 bits.
 use Rattle.std.specs.Prelude.{List, ℕ, ◌+◌, ◌^◌, ◌<◌, ◌≤◌, ℤ, nat_abs}
-use Rattle.pieces.specs.Pieces.{base, signed}
+use Rattle.pieces.specs.Pieces.{signed}
 use Rattle.pieces.specs.declared.share.Row.{Row}
 
--- what one column of a product is made of: four pieces
-pub record Column (x y a b : ℕ) : Type 0 where
-  pub x_piece : x < base
-  pub y_piece : y < base
-  pub a_piece : a < base
-  pub b_piece : b < base
-
--- and one of a signed product: a factor of 30 bits, a piece, and what the column below hands on
+-- one column of a signed product: a factor of 30 bits, a piece, and what the column below hands on
 pub record SignedColumn (x y more : ℤ) : Type 0 where
   pub narrow : nat_abs x ≤ 2 ^ 30
   pub piece : nat_abs y ≤ 2 ^ 32

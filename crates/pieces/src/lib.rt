@@ -7,6 +7,7 @@
 // whole, where there is room for it; the shift then rounds down.
 #![tactic(auto)]
 
+mod halves;
 mod product;
 pub mod share;
 mod shift;

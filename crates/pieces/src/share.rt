@@ -6,11 +6,12 @@ ghost use Rattle.pieces.specs.Pieces.{value};
 ghost use Rattle.pieces.specs.Rows.{share_of};
 ghost use Rattle.pieces.specs.Asked.{Narrow};
 
+use crate::halves::halves;
 use crate::product::{add, multiply, upper};
 use crate::shift::shifted;
 
 // M = m1·2^64 + m0, and s = 96 + by.
-#[derive(Clone, Copy)]
+#[derive(Clone, Copy, Debug, PartialEq, Eq)]
 pub struct Row {
     pub m1: u64,
     pub m0: u64,
@@ -22,13 +23,8 @@ fn half_unit(by: u64) -> [u32; 4]
     requires { by ≤ 32 }
     ensures { value result ≡ 2 ^ (95 + by) }
 {
-    let half: u64 = 1 << (31 + by);
-    [
-        0,
-        0,
-        (half % 4_294_967_296) as u32,
-        (half / 4_294_967_296) as u32,
-    ]
+    let (low, high) = halves(1 << (31 + by));
+    [0, 0, low, high]
 }
 
 // The half is added to the low product, which has room for it, and what then stands in its upper

@@ -4,6 +4,7 @@ ghost use Rattle.numbers.specs.Rounding.{floor_div, nearest};
 ghost use Rattle.pieces.specs.Pieces.{base, signed};
 ghost use Rattle.pieces.specs.Asked.{SignedColumn, Factors};
 
+use crate::halves::halves;
 use crate::shift::shifted;
 
 // What stands above the low piece of z.
@@ -17,10 +18,11 @@ fn above(z: i64) -> i64
 fn piece(z: i64) -> u32
     ensures { pos result ≡ z -ℤ pos base *ℤ floor_div z base }
 {
-    (z - 4_294_967_296 * (z >> 32)) as u32
+    halves(z.cast_unsigned()).0
 }
 
-// A factor times a piece, signed or not, and little more.
+// A factor times a piece, signed or not, and little more: std's `carrying_mul_add` is of unsigned
+// numbers alone.
 fn column(x: i64, y: i64, more: i64) -> i64
     requires { SignedColumn x y more }
     ensures { result ≡ x *ℤ y +ℤ more }
@@ -33,7 +35,7 @@ fn multiply(x: i64, high: i64, low: u32, addend: i64) -> [u32; 4]
     requires { Factors x high addend }
     ensures { signed result ≡ x *ℤ (pos low +ℤ pos base *ℤ high) +ℤ addend }
 {
-    let lower = column(x, low as i64, addend);
+    let lower = column(x, i64::from(low), addend);
     let upper = column(x, high, above(lower));
     let over = above(upper);
     [piece(lower), piece(upper), piece(over), piece(above(over))]

@@ -23,4 +23,4 @@ placed n = omega (arith, two_pieces n)
 pub returns : goal.returns
 returns c =
     let by = c.args.by in
-    placed _ ∙ ap (λ (n : ℕ). 2 ^ 64 * n) (shifted_half by c.requires) ∙ above_64 31 by
+    rw (c.halves-low.ensures.low, c.halves-low.ensures.high) (placed _) ∙ ap (λ (n : ℕ). 2 ^ 64 * n) (shifted_half by c.requires) ∙ above_64 31 by

@@ -2,7 +2,7 @@
 -- one below. Assumes nothing.
 use mathlib.Core.Path.{◌≡◌, sym, ◌∙◌, ap}
 use mathlib.Core.List.{[]}
-use Prim.Native.Nat.{◌≤◌, ◌<◌, ◌^◌}
+use Prim.Native.Nat.{ℕ, ◌≤◌, ◌<◌, ◌^◌}
 use native.Mathlib.Nat.{le_trans}
 use native.Mathlib.Omega.{arith}
 use lib.Dec.{lit<, lit≤}
@@ -10,14 +10,13 @@ use lib.IntN.{ℤ, pos, nat_abs, ◌+ℤ◌, ◌-ℤ◌, ◌*ℤ◌}
 use mir.Syntax.{w64}
 use mir.Val.{SFits}
 use Rattle.numbers.specs.Rounding.{floor_div}
-use Rattle.numbers.proofs.Machine.{fits, read_is}
+use Rattle.numbers.proofs.Machine.{fits, read, read_is}
 use Rattle.numbers.proofs.Rounding.{floor_small}
 use Rattle.numbers.proofs.Solver.{ring, quote, all₆}
 use Rattle.pieces.specs.Pieces.{base}
 use Rattle.pieces.proofs.Signs.{placed, alone, within}
 use Rattle.pieces.proofs.Machine.{read_small, above_small, above_of, piece_of}
 use Rattle.pieces.proofs.signed.multiply.Goals as goal
-use Rattle.pieces.proofs.signed.multiply.Goals.{Start}
 
 -- the low column less its carry is the product less the high column
 columns : (h x low high more f : ℤ)
@@ -30,14 +29,14 @@ sign_small h o s k e f =
     let one : nat_abs s ≤ 1 = rw f (floor_small o base 1 (lit< tt) (rw e (le_trans (above_small h k) (lit≤ tt)))) in
     omega arith
 
-low_fits : (c : Start) → SFits w64 (pos c.args.low)
-low_fits c = fits (pos c.args.low) (omega (arith, c.ranges.low.fits))
+low_fits : (n : ℕ) → n < base → SFits w64 (pos n)
+low_fits n h = fits (pos n) (omega arith)
 
 pub column-lower-requires : goal.column-lower-requires
 column-lower-requires c =
     record {
       narrow = read_small c.args.x (2 ^ 30) c.ranges.x c.requires.narrow;
-      piece = read_small (pos c.args.low) (2 ^ 32) (low_fits c) (omega (arith, c.ranges.low.fits));
+      piece = rw c.from.ensures (read_small (pos c.args.low) (2 ^ 32) (low_fits c.args.low c.ranges.low.fits) (omega (arith, c.ranges.low.fits)));
       little = read_small c.args.addend (2 ^ 32) c.ranges.addend c.requires.little;
     }
 
@@ -55,11 +54,10 @@ column-upper-requires c =
 
 pub returns : goal.returns
 returns c =
-    let s = c.before.before.before.before.before.before.before.before.before in
-    let x = s.args.x in
-    let y = s.args.high in
-    let low = pos s.args.low in
-    let addend = s.args.addend in
+    let x = c.args.x in
+    let y = c.args.high in
+    let low = pos c.args.low in
+    let addend = c.args.addend in
     let lower = c.column-lower.result in
     let carry = c.above.result in
     let upper = c.column-upper.result in
@@ -70,12 +68,13 @@ returns c =
     let upper_fits : SFits w64 upper = record { sfits = c.column-upper.type_inv } in
     let over_fits : SFits w64 over = record { sfits = c.above-over.type_inv } in
     let sign_fits : SFits w64 sign = record { sfits = c.above-2.type_inv } in
+    let low_is : read c.from.result ≡ low = ap read c.from.ensures ∙ read_is low (low_fits c.args.low c.ranges.low.fits) in
     let lower_is : lower ≡ x *ℤ low +ℤ addend =
-    c.column-lower.ensures ∙ (λ i. read_is x s.ranges.x i *ℤ read_is low (low_fits s) i +ℤ read_is addend s.ranges.addend i) in
+    c.column-lower.ensures ∙ (λ i. read_is x c.ranges.x i *ℤ low_is i +ℤ read_is addend c.ranges.addend i) in
     let carry_is : carry ≡ floor_div lower base = above_of lower carry lower_fits c.above.ensures in
     let upper_is : upper ≡ x *ℤ y +ℤ floor_div lower base =
     c.column-upper.ensures
-    ∙ (λ i. read_is x s.ranges.x i *ℤ read_is y s.ranges.high i +ℤ (read_is carry carry_fits ∙ carry_is) i) in
+    ∙ (λ i. read_is x c.ranges.x i *ℤ read_is y c.ranges.high i +ℤ (read_is carry carry_fits ∙ carry_is) i) in
     let over_is : over ≡ floor_div upper base = above_of upper over upper_fits c.above-over.ensures in
     let sign_is : sign ≡ floor_div over base = above_of over sign over_fits c.above-2.ensures in
     let sign_short = within 2147483648 sign (sign_small upper over sign upper_fits over_is sign_is) in

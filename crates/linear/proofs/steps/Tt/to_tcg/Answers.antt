@@ -1,23 +1,9 @@
--- `linear::steps::Tt::to_tcg` meets its contract: TCG is TT and what it gains. The constants of the
--- code are what the law asks by computation. Assumes nothing.
-use mathlib.Core.Path.{◌≡◌, refl, ◌∙◌}
-use native.Mathlib.Omega.{arith}
-use lib.Dec.{lit≤}
-use Rattle.std.proofs.lemmas.Int.{ints}
-use Rattle.numbers.proofs.Machine.{read, read_is}
-use Rattle.linear.proofs.Fractions.{count_small, tcg_nearest}
+-- `linear::steps::Tt::to_tcg` meets its contract: TCG is TT and what it gains. Assumes nothing.
+use mathlib.Core.Path.{◌∙◌}
+use Rattle.linear.specs.declared.drift.TheConstants.{TCG_GAINS}
+use Rattle.linear.proofs.Fractions.{tcg_is}
+use Rattle.linear.proofs.Methods.{gained}
 use Rattle.linear.proofs.steps.Tt.to_tcg.Goals as goal
 
-pub tcg_gains-gains-requires : goal.tcg_gains-gains-requires
-tcg_gains-gains-requires c =
-    let tick_is : read c.args.self.0 ≡ c.args.self.0 = omega (arith, ints) in
-    count_small c.args.self.0 c.biased.result _ c.requires (lit≤ tt) (rw tick_is at c.biased.ensures)
-
 pub returns : goal.returns
-returns c =
-    let tick_is : read c.args.self.0 ≡ c.args.self.0 = omega (arith, ints) in
-    let count = rw tick_is at c.biased.ensures in
-    read_is _ (record { sfits = c.moved.type_inv })
-    ∙ c.moved.ensures
-    ∙ rw tick_is
-    (tcg_nearest c.args.self.0 c.biased.result c.tcg_gains-gains.result _ _ count refl refl c.tcg_gains-gains.ensures)
+returns c = gained c.args.self.0 c.requires TCG_GAINS c.up_to.result c.up_to.ensures.exact c.up_to.ensures.little ∙ tcg_is c.args.self.0 c.requires
