@@ -1,6 +1,6 @@
 -- A fold of the coefficients from the last down: where the closure joins a coefficient to the sum
 -- of the later ones, it may be called at each, and the result is the sum. Assumes nothing.
-use mathlib.Core.Path.{◌≡◌, refl, sym, ◌∙◌, ap, subst}
+use mathlib.Core.Path.{◌≡◌, refl, sym, ◌∙◌, subst}
 use mathlib.Core.List.{List, [], ◌∷◌, ◌++◌, map, reverse, append_assoc, map-append}
 use Prim.Native.Nat.{suc}
 use lib.IntN.{ℤ, pos}

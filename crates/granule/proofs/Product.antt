@@ -6,14 +6,13 @@ use mathlib.Core.Logic.{inl, inr}
 use Prim.Native.Nat.{ℕ, ◌*◌, ◌-◌, ◌^◌, ◌%◌, ◌≤◌, ◌<◌}
 use native.Mathlib.Nat.{mul-le-mul, mul-le-mul_right, mul-lt-mul_of_pos_right}
 use native.Mathlib.Omega.{arith}
-use lib.Dec.{T, lit<, lit≤}
+use lib.Dec.{lit<, lit≤}
 use lib.IntN.{ℤ, pos, ◌+ℤ◌, ◌-ℤ◌, ◌*ℤ◌, nat_abs, *ℤ_comm}
-use lib.Signed.{◌≤ℤ◌, ◌<ℤ◌, non_neg, shr_z}
-use mir.Syntax.{w32, w64}
-use mir.Val.{SFits, Fits, to_z, of_z}
+use lib.Signed.{◌≤ℤ◌, ◌<ℤ◌, shr_z}
+use mir.Syntax.{w64}
+use mir.Val.{SFits, to_z, of_z}
 use Rattle.numbers.specs.Rounding.{floor_div, nearest}
 use Rattle.numbers.proofs.Differences.{rep₂, lin}
-use Rattle.numbers.proofs.Order.{size-*}
 use Rattle.numbers.proofs.Machine.{shl_is, shr_floor, read, read_is, fits_small, floor_fits}
 use Rattle.numbers.proofs.Ring.{*-left-comm}
 use Rattle.numbers.proofs.Rounding.{floored, floor_rest, floor_small, nearest_reduced}
@@ -50,7 +49,6 @@ low_of b k = left (rest_of b k) (32 - k)
 
 -- the sizes of d and g
 pub record Sizes (k : ℕ) : Type 0 where
-  pub above : 29 ≤ k
   pub whole : 2 ^ (32 - k) * 2 ^ k ≡ base
   pub some : 0 < 2 ^ (32 - k)
   pub gain : 2 ^ (32 - k) ≤ 8
@@ -58,8 +56,8 @@ pub record Sizes (k : ℕ) : Type 0 where
   pub most : 2 ^ k ≤ 2 ^ 30
 
 pub sizes : (k : ℕ) → IsDivisor k → Sizes k
-sizes k (inl e) = rw e (record { above = lit≤ tt; whole = refl; some = lit< tt; gain = lit≤ tt; least = lit≤ tt; most = lit≤ tt })
-sizes k (inr e) = rw e (record { above = lit≤ tt; whole = refl; some = lit< tt; gain = lit≤ tt; least = lit≤ tt; most = lit≤ tt })
+sizes k (inl e) = rw e (record { whole = refl; some = lit< tt; gain = lit≤ tt; least = lit≤ tt; most = lit≤ tt })
+sizes k (inr e) = rw e (record { whole = refl; some = lit< tt; gain = lit≤ tt; least = lit≤ tt; most = lit≤ tt })
 
 module _ (b : ℤ) (k : ℕ) (sized : Sizes k) (small : nat_abs b ≤ 2 ^ 60) where
   abbrev d : ℕ
@@ -80,9 +78,6 @@ module _ (b : ℤ) (k : ℕ) (sized : Sizes k) (small : nat_abs b ≤ 2 ^ 60) wh
   high_small : nat_abs (high b d) ≤ 2 ^ 31
   high_small = floor_small b d (2 ^ 31) (omega arith) (omega (arith, mul-le-mul_right (2 ^ 31) l))
 
-  taken_small : nat_abs (taken b d) ≤ 2 ^ 61
-  taken_small = size-* (pos d) (high b d) sized.most high_small
-
   rest_small : nat_abs (rest b d) ≤ 2 ^ 30
   rest_small = omega (arith, floor_rest b d (omega arith))
 
@@ -91,12 +86,6 @@ module _ (b : ℤ) (k : ℕ) (sized : Sizes k) (small : nat_abs b ≤ 2 ^ 60) wh
 
   high_kept : SFits w64 (high b d)
   high_kept = floor_fits b d b_kept
-
-  taken_kept : SFits w64 (taken b d)
-  taken_kept = fits_small (taken b d) (2 ^ 61) taken_small (lit< tt)
-
-  rest_kept : SFits w64 (rest b d)
-  rest_kept = fits_small (rest b d) (2 ^ 30) rest_small (lit< tt)
 
   -- g times what d leaves of b is a piece
   low_piece : Piece (rest b d *ℤ pos g)

@@ -1,14 +1,14 @@
 -- The sums of the tests as loops from the last coefficient down make them, and how large they can
 -- be, for coefficients within 2^40. Assumes nothing.
-use mathlib.Core.Path.{◌≡◌, refl, sym, ◌∙◌, ap}
+use mathlib.Core.Path.{◌≡◌, sym, ◌∙◌, ap}
 use mathlib.Core.Bool.{true}
 use mathlib.Core.List.{List, [], ◌∷◌, ◌++◌, reverse, append-nil, append_assoc, reverse-append, reverse-reverse}
-use Prim.Native.Nat.{ℕ, suc, ◌+◌, ◌*◌, ◌-◌, ◌^◌, ◌≤◌, ◌<◌}
-use native.Mathlib.Nat.{mul-le-mul, le_refl}
+use Prim.Native.Nat.{ℕ, suc, ◌+◌, ◌*◌, ◌^◌, ◌≤◌, ◌<◌}
+use native.Mathlib.Nat.{mul-le-mul}
 use native.Mathlib.Omega.{arith}
 use lib.IntN.{ℤ, pos, ◌+ℤ◌, ◌-ℤ◌, neg_ℤ, nat_abs}
 use lib.Seq.{drop-append_seam}
-use lib.ListN.{length, get_or, drop, length-drop}
+use lib.ListN.{length, drop, length-drop}
 use native.Mathlib.Numerals.{add-one}
 use Rattle.std.specs.List.{enumerate_from, sum_by}
 use Rattle.std.proofs.lemmas.List.Sums.{sum_by-cons}
@@ -20,7 +20,6 @@ use Rattle.granule.specs.Bounds.{most_degree}
 use Rattle.granule.specs.Tests.{largest, is_small, weight_from, weight_of, plain_sum, alternating_sum}
 use Rattle.granule.specs.Asked.{Summable}
 use Rattle.granule.proofs.Clauses.{weight_nil, weight_cons, plain_nil, plain_cons, alternating_nil, alternating_cons}
-use Rattle.granule.proofs.Downward.{drop_past, drop_back}
 use Rattle.granule.proofs.Passing.{small_cons, small_drop}
 
 -- ---- the plain and the alternating sum: each coefficient is joined to the sum of the later ones

@@ -3,12 +3,11 @@
 // as many as the degree plus one; a coefficient becomes `Units` where it is taken out.
 #![tactic(auto)]
 
-ghost use Rattle.std.specs.Prelude.{◌≡◌, ◌^◌, ℤ, pos, nat_abs, ◌+ℤ◌, ◌-ℤ◌, ◌*ℤ◌};
-ghost use Rattle.std.specs.Int.Signed.{le_z};
+ghost use Rattle.std.specs.Prelude.{◌≡◌, ◌^◌, ◌+ℤ◌, ◌-ℤ◌, ◌*ℤ◌};
 ghost use Rattle.numbers.specs.Rounding.{nearest};
 ghost use Rattle.granule.specs.Rule.{p_of, u_of, delay_of, value_at};
-ghost use Rattle.granule.specs.Tests.{is_within, is_small, weight_of, is_light};
-ghost use Rattle.granule.specs.Tests.{plain_sum, alternating_sum, widest, is_joined};
+ghost use Rattle.granule.specs.Tests.{is_small, weight_of, is_light};
+ghost use Rattle.granule.specs.Tests.{plain_sum, alternating_sum, is_joined};
 ghost use Rattle.granule.specs.Asked.{InGranule, Factors, IsDivisor, Terms, Summable, Evaluable};
 
 use pieces::signed::rounded_product;
@@ -57,7 +56,7 @@ fn turn<const BITS: u32>(u: i64, c: Units, b1: Units, b2: Units) -> Units
 // The value v of a granule of `length` ticks at the tick `place` ticks after its start. The caller
 // has judged the table: the bounds and test 14 are what keeps every number within 64 bits. b_n is
 // c_n, since the two above it are 0; and where c_0 is all, v is c_0. Two turns go together, so that
-// no b_k has to be moved.
+// no b_k has to be moved; and `left` stands before b1 and b2, which is worth a cycle a round.
 pub fn value(coefficients: &[i64], place: u64, length: u64) -> Units
     requires { Evaluable coefficients.now place length }
     ensures { result.0 ≡ value_at coefficients.now place length }
@@ -66,9 +65,9 @@ pub fn value(coefficients: &[i64], place: u64, length: u64) -> Units
         return Units(coefficients[0]);
     };
     let u = argument(place, length);
+    let mut left = middle;
     let mut b1 = Units(*last);
     let mut b2 = Units(0);
-    let mut left = middle;
     while let [rest @ .., lower, upper] = left {
         b2 = turn::<29>(u, Units(*upper), b1, b2);
         b1 = turn::<29>(u, Units(*lower), b2, b1);

@@ -1,7 +1,4 @@
 -- `granule::rounded` meets its contract: its pieces are those of `Product`. Assumes nothing.
-use Prim.Native.Nat.{◌^◌}
-use lib.Dec.{lit≤}
-use Rattle.pieces.proofs.Machine.{read_small}
 use Rattle.granule.proofs.Product.{sizes, rounded_is}
 use Rattle.granule.proofs.rounded.Goals as goal
 
