@@ -1,6 +1,6 @@
 -- The one pass over the granules: what it keeps, and what it asks.
 use Rattle.std.specs.Prelude.{◌≡◌, true, cond, ◌||◌, List, ℕ, ◌*◌, ◌+◌, ◌≤◌, ◌<◌, ltb, eqb, ℤ}
-use Rattle.std.specs.Prelude.{length}
+use Rattle.std.specs.Prelude.{length, nat_abs}
 use Rattle.numbers.specs.Tests.{rank, told}
 use Rattle.granule.specs.Bounds.{most_degree}
 use Rattle.granule.specs.Tests.{plain_sum, alternating_sum, is_joined}
@@ -33,6 +33,12 @@ unfoldable pub scan_next : Scan → ℕ → List ℤ → ℕ → Next
 scan_next scan g c H =
     cond (eqb (rank (own_rules H) c) 0) Lowest
     (Onward (scan_after scan g (joined_rank (rank (own_rules H) c) g scan.plain.0 c) (plain_sum c)))
+
+-- what looks at a granule finds what comes after it
+abbrev pub Finds : (Scan → ℕ → Next → Type 0) → Table → (ℕ → List ℤ) → Type 0
+Finds found t granule =
+    (scan : Scan) (g : ℕ) (next : Next) → g < t.count → found scan g next
+    → next ≡ scan_next scan g (granule g) (nat_abs t.length)
 
 -- what is told at its end: the numbers of the rules, whatever they are over
 pub record RankTold (r place : ℕ) (answer : Tested) : Type 0 where

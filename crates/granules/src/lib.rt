@@ -4,13 +4,13 @@
 // there is and ends the pass, so that the sums of every granule passed fit 64 bits.
 #![tactic(auto)]
 
-ghost use Rattle.std.specs.Prelude.{◌≡◌};
+ghost use Rattle.std.specs.Prelude.{◌≡◌, ℕ, ◌<◌, List, ℤ};
 ghost use Rattle.granule.specs.Asked.{Summable};
 ghost use Rattle.image.specs.Asked.{WholeTable};
 ghost use Rattle.numbers.specs.Tests.{rank};
-ghost use Rattle.granules.specs.Tests.{own_rules};
-ghost use Rattle.granules.specs.Answers.{tested_stored, tested_listed};
-ghost use Rattle.granules.specs.Pass.{joined_rank, scan_next, Short, Formed, RankTold};
+ghost use Rattle.granules.specs.Tests.{own_rules, granule_tests};
+ghost use Rattle.granules.specs.Answers.{tested_by, tested_stored, tested_listed};
+ghost use Rattle.granules.specs.Pass.{joined_rank, scan_next, Short, Formed, Finds, RankTold};
 
 use granule::{Units, alternating, joined, light, plain, small, weight};
 use image::table::Table;
@@ -118,22 +118,19 @@ fn told(rank: usize, place: usize) -> Tested
     })
 }
 
-// The coefficients of a table in bytes, whose bounds and blocks are right: so all sixteen of a
-// granule are looked at, 'those above the degree zero'.
-pub fn test_stored(bytes: &[u8], table: Table) -> Tested
-    requires { Formed bytes.now table }
-    ensures { result ≡ tested_stored bytes.now table }
+// The one pass over a table's granules, by what looks at each.
+fn pass_over<F: Fn(Scan, usize) -> Next>(table: Table, look: F) -> Tested
+    requires { (scan : _) (g : ℕ) → g < table.count → F.pre look scan g }
+    ensures { (granule : ℕ → List ℤ) → Finds (F.post look) table granule
+        → result ≡ tested_by (granule_tests table granule) }
 {
-    let length = table.length as u64;
     let mut scan = Scan {
         rank: NONE,
         place: 0,
         plain: Units(0),
     };
-    let mut g = 0;
-    while g < table.count as usize {
-        let all = stored(bytes, g);
-        match look_at(scan, g, &all, length) {
+    for g in 0..table.count as usize {
+        match look(scan, g) {
             Next::Lowest => {
                 return told(0, g);
             }
@@ -141,9 +138,18 @@ pub fn test_stored(bytes: &[u8], table: Table) -> Tested
                 scan = onward;
             }
         }
-        g += 1;
     }
     told(scan.rank, scan.place)
+}
+
+// The coefficients of a table in bytes, whose bounds and blocks are right: so all sixteen of a
+// granule are looked at, 'those above the degree zero'.
+pub fn test_stored(bytes: &[u8], table: Table) -> Tested
+    requires { Formed bytes.now table }
+    ensures { result ≡ tested_stored bytes.now table }
+{
+    let length = table.length as u64;
+    pass_over(table, |scan, g| look_at(scan, g, &stored(bytes, g), length))
 }
 
 // The coefficients of a table in a list, granule by granule, whose bounds are right.
@@ -153,24 +159,9 @@ pub fn test_listed(coefficients: &[i64], table: Table) -> Tested
 {
     let width = table.degree as usize + 1;
     let length = table.length as u64;
-    let mut scan = Scan {
-        rank: NONE,
-        place: 0,
-        plain: Units(0),
-    };
-    let mut g = 0;
-    while g < table.count as usize {
+    pass_over(table, |scan, g| {
         let from = g * width;
         let to = from + width;
-        match look_at(scan, g, &coefficients[from..to], length) {
-            Next::Lowest => {
-                return told(0, g);
-            }
-            Next::Onward(onward) => {
-                scan = onward;
-            }
-        }
-        g += 1;
-    }
-    told(scan.rank, scan.place)
+        look_at(scan, g, &coefficients[from..to], length)
+    })
 }
