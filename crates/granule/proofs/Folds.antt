@@ -34,7 +34,8 @@ module _
     (g : Mut F (ℤ × (Bor ℤ × Unit {0})) ℤ)
     (f : F)
     (asks : (s : ℤ) (x : Bor ℤ) → SFits w64 (op (read x.now) (read s)) → Takes g f (s, (x, tt)))
-    (says : (s : ℤ) (x : Bor ℤ) (r : ℤ) (f' : F) → Called g f (s, (x, tt)) r f' → (f' ≡ f) × (r ≡ read (op (read x.now) (read s))))
+    (says : (s : ℤ) (x : Bor ℤ) (r : ℤ) (f' : F) → Called g f (s, (x, tt)) r f'
+    → (f' ≡ f) × (r ≡ read (op (read x.now) (read s))))
     (cs : List ℤ)
     (summable : Summable cs)
     (s : Rev (Iter ℤ))
@@ -46,7 +47,8 @@ module _
     road : YieldsList (rev_steps iter_steps_back) (λ y. y.now) s (reverse cs)
     road = YieldsList-from_rev_slice cs lent
 
-    turn : (ys : List ℤ) (a : ℤ) (x : Bor ℤ) (b : ℤ) (f' : F) → Summed sum op joins cs ys a → Called g f (a, (x, tt)) b f'
+    turn : (ys : List ℤ) (a : ℤ) (x : Bor ℤ) (b : ℤ) (f' : F) → Summed sum op joins cs ys a
+        → Called g f (a, (x, tt)) b f'
         → Summed sum op joins cs (ys ++ x.now ∷ []) b × (f' ≡ f)
     turn ys a x b f' h k =
         let made = says a x b f' k in (
@@ -54,12 +56,16 @@ module _
           made.0,
         )
 
-    pub folds : (r : ℤ) → (xs : List (Bor ℤ)) × (f' : F) × Drains (rev_steps iter_steps_back) s xs × FoldsTo {P = F × ℤ} (FoldTurn g) (f, pos 0) xs (f', r)
+    pub folds : (r : ℤ)
+        → (xs : List (Bor ℤ)) × (f' : F) × Drains (rev_steps iter_steps_back) s xs
+        × FoldsTo {P = F × ℤ} (FoldTurn g) (f, pos 0) xs (f', r)
         → r ≡ sum cs
     folds r ran = sum_ends sum op joins cs r
-        (fold_over (rev_steps iter_steps_back) (λ y. y.now) g (Summed sum op joins cs) f turn s (reverse cs) (pos 0) r road.runs (sum_begins sum op joins cs) ran)
+        (fold_over (rev_steps iter_steps_back) (λ y. y.now) g (Summed sum op joins cs) f turn
+        s (reverse cs) (pos 0) r road.runs (sum_begins sum op joins cs) ran)
 
-    pub callable : CallableAtEachTurn {P = F × ℤ} (rev_steps iter_steps_back) (FoldTurn g) (λ p x. Takes g p.0 (p.1, (x, tt))) s (f, pos 0)
+    pub callable : CallableAtEachTurn {P = F × ℤ} (rev_steps iter_steps_back) (FoldTurn g)
+        (λ p x. Takes g p.0 (p.1, (x, tt))) s (f, pos 0)
     callable = serves_by (FoldTurn g) (λ xs p. Summed sum op joins cs (values xs) p.1 × (p.0 ≡ f))
         (λ xs p x q j k.
         let t = turn (values xs) p.1 x q.1 q.0 j.0 (subst (λ (y : F). Called g y (p.1, (x, tt)) q.1 q.0) j.1 k) in

@@ -103,7 +103,8 @@ module _ (cs : List ℤ) (place H : ℕ) (e : Evaluable cs place H) where
     pub fit : (c : ℤ) → c ≡ get_or cs k (pos 0) → Terms u c b₁ b₂
     fit c is = rw (made, is, t.one, t.two) (terms cs place H k e)
 
-    pub turns : (c b : ℤ) → c ≡ get_or cs k (pos 0) → b ≡ c +ℤ nearest (u *ℤ b₁) (2 ^ 29) -ℤ b₂ → 1 ≤ k → Turned cs place H (k - 1) b b₁
+    pub turns : (c b : ℤ) → c ≡ get_or cs k (pos 0) → b ≡ c +ℤ nearest (u *ℤ b₁) (2 ^ 29) -ℤ b₂ → 1 ≤ k
+        → Turned cs place H (k - 1) b b₁
     turns c b is h some =
         let below = t.below in
         let back : suc (k - 1) ≡ k = omega arith in
@@ -113,7 +114,8 @@ module _ (cs : List ℤ) (place H : ℕ) (e : Evaluable cs place H) where
           two = rw back t.one;
         }
 
-    pub ends : (c v : ℤ) → c ≡ get_or cs k (pos 0) → v ≡ c +ℤ nearest (u *ℤ b₁) scale -ℤ b₂ → k ≡ 0 → v ≡ value_at cs place H
+    pub ends : (c v : ℤ) → c ≡ get_or cs k (pos 0) → v ≡ c +ℤ nearest (u *ℤ b₁) scale -ℤ b₂ → k ≡ 0
+        → v ≡ value_at cs place H
     ends c v is h none =
         let at = rw none at is in
         let one = rw none at t.one in

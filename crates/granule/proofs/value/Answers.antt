@@ -1,10 +1,11 @@
 use mathlib.Core.Path.{◌≡◌, refl, ◌∙◌}
 use mathlib.Core.List.{List}
-use Prim.Native.Nat.{◌-◌, ◌≤◌, ◌<◌}
+use Prim.Native.Nat.{ℕ, suc, ◌-◌, ◌≤◌, ◌<◌}
 use native.Mathlib.Omega.{arith}
 use lib.IntN.{ℤ, pos}
 use lib.ListN.{length, get_or}
 use Rattle.numbers.proofs.Machine.{read, read_is}
+use Rattle.granule.specs.declared.Units.{Units}
 use Rattle.granule.specs.Rule.{p_of, u_of}
 use Rattle.granule.proofs.Turns.{Turned, left_at, shortened, alone, starts, coefficient, fit, turns, ends}
 use Rattle.granule.proofs.value.Goals as goal
@@ -28,100 +29,105 @@ coefficients_of c = c.args.coefficients.now
 abbrev left_of : At-loop-left → List ℤ
 left_of c = c.loop-left.left.now
 
-upper : (c : At-loop-left) → 1 ≤ length (left_of c)
-    → read (get_or (left_of c) (length (left_of c) - 1) (pos 0)) ≡ get_or (coefficients_of c) (length (left_of c)) (pos 0)
-upper c h =
-    left_at c.args.coefficients.now c.args.place c.args.length c.requires c.loop-left.left.now
-    (length (left_of c) - 1) (length (left_of c)) c.loop-left.invariant.front (omega arith) (omega arith)
+abbrev many : At-loop-left → ℕ
+many c = length (left_of c)
+
+abbrev TurnedTo : At-loop-left → ℕ → Units → Units → Type 0
+TurnedTo c k b₁ b₂ = Turned c.args.coefficients.now c.args.place c.args.length k b₁.0 b₂.0
+
+-- the i-th that is left is c_k
+read_at : (c : At-loop-left) (i k : ℕ) → suc i ≡ k → k ≤ many c
+    → read (get_or (left_of c) i (pos 0)) ≡ get_or (coefficients_of c) k (pos 0)
+read_at c i k = left_at c.args.coefficients.now c.args.place c.args.length c.requires c.loop-left.left.now i k c.loop-left.invariant.front
+
+upper : (c : At-loop-left) → 1 ≤ many c
+    → read (get_or (left_of c) (many c - 1) (pos 0)) ≡ get_or (coefficients_of c) (many c) (pos 0)
+upper c h = read_at c (many c - 1) (many c) (omega arith) (omega arith)
+
+lower : (c : At-loop-left) → 2 ≤ many c
+    → read (get_or (left_of c) (many c - 2) (pos 0)) ≡ get_or (coefficients_of c) (many c - 1) (pos 0)
+lower c h = read_at c (many c - 2) (many c - 1) (omega (arith, h)) (omega (arith, h))
 
 pub turn-b2-requires-clause-terms : goal.turn-b2-requires-clause-terms
 turn-b2-requires-clause-terms c =
+    let o = (goal.at.turn-b2-requires-clause-terms c).At-loop-left in
     fit c.args.coefficients.now c.args.place c.args.length c.requires _ (made (goal.at.turn-b2-requires-clause-terms c).After-argument-u)
-    (length c.loop-left.left.now) c.loop-left.b1.0 c.loop-left.b2.0 c.loop-left.invariant.turned _
-    (upper (goal.at.turn-b2-requires-clause-terms c).At-loop-left (omega (arith, c.in-len2-up-left.len_at_least)))
+    (many o) c.loop-left.b1.0 c.loop-left.b2.0 c.loop-left.invariant.turned _
+    (upper o (omega (arith, c.in-len2-up-left.len_at_least)))
 
--- with c_k taken, c_1, .., c_(k−1) are left; and with that one taken, one fewer
+-- with c_k taken, one fewer is left
 first : (c : After-turn-b2) → 2 ≤ length c.loop-left.left.now
-    → Turned c.args.coefficients.now c.args.place c.args.length (length c.loop-left.left.now - 1) c.turn-b2.result.0 c.loop-left.b1.0
+    → TurnedTo (goal.at.After-turn-b2 c).At-loop-left (length c.loop-left.left.now - 1) c.turn-b2.result c.loop-left.b1
 first c h =
+    let o = (goal.at.After-turn-b2 c).At-loop-left in
     turns c.args.coefficients.now c.args.place c.args.length c.requires _ (made (goal.at.After-turn-b2 c).After-argument-u)
-    (length c.loop-left.left.now) c.loop-left.b1.0 c.loop-left.b2.0 c.loop-left.invariant.turned _ _
-    (upper (goal.at.After-turn-b2 c).At-loop-left (omega (arith, h))) c.turn-b2.ensures (omega (arith, h))
-
-lower : (c : At-loop-left) → 2 ≤ length (left_of c)
-    → read (get_or (left_of c) (length (left_of c) - 2) (pos 0)) ≡ get_or (coefficients_of c) (length (left_of c) - 1) (pos 0)
-lower c h =
-    left_at c.args.coefficients.now c.args.place c.args.length c.requires c.loop-left.left.now
-    (length (left_of c) - 2) (length (left_of c) - 1) c.loop-left.invariant.front (omega (arith, h)) (omega (arith, h))
+    (many o) c.loop-left.b1.0 c.loop-left.b2.0 c.loop-left.invariant.turned _ _
+    (upper o (omega (arith, h))) c.turn-b2.ensures (omega (arith, h))
 
 pub turn-b1-requires-clause-terms : goal.turn-b1-requires-clause-terms
 turn-b1-requires-clause-terms c =
+    let o = (goal.at.turn-b1-requires-clause-terms c).At-loop-left in
     let two = c.in-len2-up-left.len_at_least in
     fit c.args.coefficients.now c.args.place c.args.length c.requires _ (made (goal.at.turn-b1-requires-clause-terms c).After-argument-u)
-    (length c.loop-left.left.now - 1) c.turn-b2.result.0 c.loop-left.b1.0
-    (first (goal.at.turn-b1-requires-clause-terms c).After-turn-b2 two) _
-    (lower (goal.at.turn-b1-requires-clause-terms c).At-loop-left two)
+    (many o - 1) c.turn-b2.result.0 c.loop-left.b1.0
+    (first (goal.at.turn-b1-requires-clause-terms c).After-turn-b2 two) _ (lower o two)
 
 pub loop-left-preserved : goal.loop-left-preserved
 loop-left-preserved c =
+    let o = (goal.at.loop-left-preserved c).At-loop-left in
     let two = c.in-len2-up-left.len_at_least in
-    let k = length c.loop-left.left.now in
-    let less : k - 1 - 1 ≡ k - 2 = omega arith in
+    let less : many o - 1 - 1 ≡ many o - 2 = omega arith in
     let t = turns c.args.coefficients.now c.args.place c.args.length c.requires _ (made (goal.at.loop-left-preserved c).After-argument-u)
-    (k - 1) c.turn-b2.result.0 c.loop-left.b1.0 (first (goal.at.loop-left-preserved c).After-turn-b2 two) _ _
-    (lower (goal.at.loop-left-preserved c).At-loop-left two) c.turn-b1.ensures (omega (arith, two)) in
-    shortened c.args.coefficients.now c.args.place c.args.length c.requires c.loop-left.left.now (k - 2) _ _
-    c.loop-left.invariant.front (omega arith) (rw less at t)
+    (many o - 1) c.turn-b2.result.0 c.loop-left.b1.0 (first (goal.at.loop-left-preserved c).After-turn-b2 two) _ _
+    (lower o two) c.turn-b1.ensures (omega (arith, two)) in
+    shortened c.args.coefficients.now c.args.place c.args.length c.requires c.loop-left.left.now (many o - 2) _ _ c.loop-left.invariant.front (omega arith) (rw less at t)
 
 -- where none is left, v is made of what there is
-none : (c : At-loop-left) → length (left_of c) < 1 → Turned (coefficients_of c) c.args.place c.args.length 0 c.loop-left.b1.0 c.loop-left.b2.0
-none c h = let e : length (left_of c) ≡ 0 = omega (arith, h) in rw e at c.loop-left.invariant.turned
+none : (c : At-loop-left) → many c < 1 → TurnedTo c 0 c.loop-left.b1 c.loop-left.b2
+none c h = let e : many c ≡ 0 = omega (arith, h) in rw e at c.loop-left.invariant.turned
 
 pub turn-requires-clause-terms : goal.turn-requires-clause-terms
 turn-requires-clause-terms c =
+    let o = (goal.at.turn-requires-clause-terms c).At-loop-left in
     fit c.args.coefficients.now c.args.place c.args.length c.requires _ (made (goal.at.turn-requires-clause-terms c).After-argument-u)
-    0 c.loop-left.b1.0 c.loop-left.b2.0 (none (goal.at.turn-requires-clause-terms c).At-loop-left c.in_default-left-2.len_below) _
-    (coefficient c.args.coefficients.now c.args.place c.args.length c.requires 0)
+    0 c.loop-left.b1.0 c.loop-left.b2.0 (none o c.in_default-left-2.len_below) _ (coefficient c.args.coefficients.now c.args.place c.args.length c.requires 0)
 
 pub returns-in_default-left-2 : goal.returns-in_default-left-2
 returns-in_default-left-2 c =
+    let o = (goal.at.returns-in_default-left-2 c).At-loop-left in
     ends c.args.coefficients.now c.args.place c.args.length c.requires _ (made (goal.at.returns-in_default-left-2 c).After-argument-u)
-    0 c.loop-left.b1.0 c.loop-left.b2.0 (none (goal.at.returns-in_default-left-2 c).At-loop-left c.in_default-left-2.len_below) _ _
-    (coefficient c.args.coefficients.now c.args.place c.args.length c.requires 0) c.turn.ensures refl
+    0 c.loop-left.b1.0 c.loop-left.b2.0 (none o c.in_default-left-2.len_below) _ _ (coefficient c.args.coefficients.now c.args.place c.args.length c.requires 0) c.turn.ensures refl
 
 -- where one is left, it is c_1
-one : (c : At-loop-left) → 1 ≤ length (left_of c) → length (left_of c) < 2 → length (left_of c) ≡ 1
+one : (c : At-loop-left) → 1 ≤ many c → many c < 2 → many c ≡ 1
 one c h l = omega (arith, h, l)
 
-second : (c : At-loop-left) → length (left_of c) ≡ 1 → read (get_or (left_of c) 0 (pos 0)) ≡ get_or (coefficients_of c) (length (left_of c)) (pos 0)
-second c h =
-    left_at c.args.coefficients.now c.args.place c.args.length c.requires c.loop-left.left.now 0 (length (left_of c)) c.loop-left.invariant.front (omega (arith, h)) (omega arith)
+second : (c : At-loop-left) → many c ≡ 1
+    → read (get_or (left_of c) 0 (pos 0)) ≡ get_or (coefficients_of c) (many c) (pos 0)
+second c h = read_at c 0 (many c) (omega (arith, h)) (omega arith)
 
 pub turn-b-requires-clause-terms : goal.turn-b-requires-clause-terms
 turn-b-requires-clause-terms c =
     let o = (goal.at.turn-b-requires-clause-terms c).At-loop-left in
     fit c.args.coefficients.now c.args.place c.args.length c.requires _ (made (goal.at.turn-b-requires-clause-terms c).After-argument-u)
-    (length c.loop-left.left.now) c.loop-left.b1.0 c.loop-left.b2.0 c.loop-left.invariant.turned _
+    (many o) c.loop-left.b1.0 c.loop-left.b2.0 c.loop-left.invariant.turned _
     (second o (one o c.in-len1-up.len_at_least c.in_default-left.len_below))
 
-last : (c : After-turn-b)
-    → Turned c.args.coefficients.now c.args.place c.args.length 0 c.turn-b.result.0 c.loop-left.b1.0
+last : (c : After-turn-b) → TurnedTo (goal.at.After-turn-b c).At-loop-left 0 c.turn-b.result c.loop-left.b1
 last c =
     let o = (goal.at.After-turn-b c).At-loop-left in
     let e = one o c.in-len1-up.len_at_least c.in_default-left.len_below in
-    let less : length c.loop-left.left.now - 1 ≡ 0 = omega (arith, e) in
+    let less : many o - 1 ≡ 0 = omega (arith, e) in
     rw less at (turns c.args.coefficients.now c.args.place c.args.length c.requires _ (made (goal.at.After-turn-b c).After-argument-u)
-    (length c.loop-left.left.now) c.loop-left.b1.0 c.loop-left.b2.0 c.loop-left.invariant.turned _ _
+    (many o) c.loop-left.b1.0 c.loop-left.b2.0 c.loop-left.invariant.turned _ _
     (second o e) c.turn-b.ensures (omega (arith, e)))
 
 pub turn-requires-2-clause-terms : goal.turn-requires-2-clause-terms
 turn-requires-2-clause-terms c =
     fit c.args.coefficients.now c.args.place c.args.length c.requires _ (made (goal.at.turn-requires-2-clause-terms c).After-argument-u)
-    0 c.turn-b.result.0 c.loop-left.b1.0 (last (goal.at.turn-requires-2-clause-terms c).After-turn-b) _
-    (coefficient c.args.coefficients.now c.args.place c.args.length c.requires 0)
+    0 c.turn-b.result.0 c.loop-left.b1.0 (last (goal.at.turn-requires-2-clause-terms c).After-turn-b) _ (coefficient c.args.coefficients.now c.args.place c.args.length c.requires 0)
 
 pub returns : goal.returns
 returns c =
     ends c.args.coefficients.now c.args.place c.args.length c.requires _ (made (goal.at.returns c).After-argument-u)
-    0 c.turn-b.result.0 c.loop-left.b1.0 (last (goal.at.returns c).After-turn-b) _ _
-    (coefficient c.args.coefficients.now c.args.place c.args.length c.requires 0) c.turn-2.ensures refl
+    0 c.turn-b.result.0 c.loop-left.b1.0 (last (goal.at.returns c).After-turn-b) _ _ (coefficient c.args.coefficients.now c.args.place c.args.length c.requires 0) c.turn-2.ensures refl

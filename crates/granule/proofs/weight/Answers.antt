@@ -1,4 +1,5 @@
--- `granule::weight` meets its contract: std's word for the chain is the page's sum. Assumes nothing.
+-- `granule::weight` meets its contract: std's word for the chain is the page's sum. Assumes
+-- nothing.
 use borrow.Author.Rules.{rules}
 use mathlib.Core.Path.{◌≡◌, ◌∙◌, ap}
 use Prim.Native.Nat.{ℕ, ◌*◌, ◌^◌, ◌≤◌, ◌<◌}
@@ -22,7 +23,8 @@ use Rattle.granule.proofs.weight.Goals as goal
 use Rattle.granule.proofs.weight.Goals.{After-map}
 
 places : (c : After-map)
-    → YieldsList {B = ℕ × ℤ} (enumerate_steps fronts) (λ p. (p.0, p.1.now)) (map_source c.map.result) (enumerate_from 0 c.args.coefficients.now)
+    → YieldsList {B = ℕ × ℤ} (enumerate_steps fronts) (λ p. (p.0, p.1.now)) (map_source c.map.result)
+    (enumerate_from 0 c.args.coefficients.now)
 places c =
     YieldsList-at c.map.ensures.source
     (YieldsList-from_enumerate (YieldsList-at c.enumerate.ensures.source (YieldsList-from_slice c.args.coefficients.now cc)) cc)
