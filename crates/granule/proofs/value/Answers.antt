@@ -80,7 +80,12 @@ loop-left-preserved c =
     let t = turns c.args.coefficients.now c.args.place c.args.length c.requires _ (made (goal.at.loop-left-preserved c).After-argument-u)
     (many o - 1) c.turn-b2.result.0 c.loop-left.b1.0 (first (goal.at.loop-left-preserved c).After-turn-b2 two) _ _
     (lower o two) c.turn-b1.ensures (omega (arith, two)) in
-    shortened c.args.coefficients.now c.args.place c.args.length c.requires c.loop-left.left.now (many o - 2) _ _ c.loop-left.invariant.front (omega arith) (rw less at t)
+    shortened c.args.coefficients.now c.args.place c.args.length c.requires c.loop-left.left.now
+    (many o - 2) _ _ c.loop-left.invariant.front (omega arith) (rw less at t)
+
+-- c_0, as it is read
+lowest : (c : At-loop-left) → read (get_or (coefficients_of c) 0 (pos 0)) ≡ get_or (coefficients_of c) 0 (pos 0)
+lowest c = coefficient c.args.coefficients.now c.args.place c.args.length c.requires 0
 
 -- where none is left, v is made of what there is
 none : (c : At-loop-left) → many c < 1 → TurnedTo c 0 c.loop-left.b1 c.loop-left.b2
@@ -90,13 +95,13 @@ pub turn-requires-clause-terms : goal.turn-requires-clause-terms
 turn-requires-clause-terms c =
     let o = (goal.at.turn-requires-clause-terms c).At-loop-left in
     fit c.args.coefficients.now c.args.place c.args.length c.requires _ (made (goal.at.turn-requires-clause-terms c).After-argument-u)
-    0 c.loop-left.b1.0 c.loop-left.b2.0 (none o c.in_default-left-2.len_below) _ (coefficient c.args.coefficients.now c.args.place c.args.length c.requires 0)
+    0 c.loop-left.b1.0 c.loop-left.b2.0 (none o c.in_default-left-2.len_below) _ (lowest o)
 
 pub returns-in_default-left-2 : goal.returns-in_default-left-2
 returns-in_default-left-2 c =
     let o = (goal.at.returns-in_default-left-2 c).At-loop-left in
     ends c.args.coefficients.now c.args.place c.args.length c.requires _ (made (goal.at.returns-in_default-left-2 c).After-argument-u)
-    0 c.loop-left.b1.0 c.loop-left.b2.0 (none o c.in_default-left-2.len_below) _ _ (coefficient c.args.coefficients.now c.args.place c.args.length c.requires 0) c.turn.ensures refl
+    0 c.loop-left.b1.0 c.loop-left.b2.0 (none o c.in_default-left-2.len_below) _ _ (lowest o) c.turn.ensures refl
 
 -- where one is left, it is c_1
 one : (c : At-loop-left) → 1 ≤ many c → many c < 2 → many c ≡ 1
@@ -124,10 +129,12 @@ last c =
 
 pub turn-requires-2-clause-terms : goal.turn-requires-2-clause-terms
 turn-requires-2-clause-terms c =
+    let o = (goal.at.turn-requires-2-clause-terms c).At-loop-left in
     fit c.args.coefficients.now c.args.place c.args.length c.requires _ (made (goal.at.turn-requires-2-clause-terms c).After-argument-u)
-    0 c.turn-b.result.0 c.loop-left.b1.0 (last (goal.at.turn-requires-2-clause-terms c).After-turn-b) _ (coefficient c.args.coefficients.now c.args.place c.args.length c.requires 0)
+    0 c.turn-b.result.0 c.loop-left.b1.0 (last (goal.at.turn-requires-2-clause-terms c).After-turn-b) _ (lowest o)
 
 pub returns : goal.returns
 returns c =
+    let o = (goal.at.returns c).At-loop-left in
     ends c.args.coefficients.now c.args.place c.args.length c.requires _ (made (goal.at.returns c).After-argument-u)
-    0 c.turn-b.result.0 c.loop-left.b1.0 (last (goal.at.returns c).After-turn-b) _ _ (coefficient c.args.coefficients.now c.args.place c.args.length c.requires 0) c.turn-2.ensures refl
+    0 c.turn-b.result.0 c.loop-left.b1.0 (last (goal.at.returns c).After-turn-b) _ _ (lowest o) c.turn-2.ensures refl

@@ -11,6 +11,7 @@ use denote.Ref.{Bor}
 use Rattle.std.specs.List.{enumerate_from}
 use Rattle.std.proofs.lemmas.Iterator.{YieldsList, YieldsList-from_slice, YieldsList-from_map}
 use Rattle.std.proofs.lemmas.Iterator.Consumers.{YieldsList-at, YieldsList-from_enumerate, sum_by_from_yields_List, fits_by_from_yields_list}
+use Rattle.granule.specs.Bounds.{most_degree}
 use Rattle.granule.specs.Tests.{largest}
 use Rattle.granule.proofs.Passing.{small_at}
 use Rattle.granule.proofs.Sums.{most_square, term_small, term_of, weight_is, terms_fit}
@@ -37,10 +38,11 @@ sized c x k l e =
     let cs = c.args.coefficients.now in
     let few = c.requires.few in
     let short : k < length cs = rw (length-enumerate_from 0 cs) at l in
+    let low : k ≤ most_degree = omega (arith, few, short) in
     let at : (x.0, x.1.now) ≡ (k, get_or cs k x.1.now) = e ∙ rw (zero-add k) at (get_or-enumerate_from 0 cs k (x.0, x.1.now) short) in
     let place : x.0 ≡ k = ap (λ (p : ℕ × ℤ). p.0) at in
     let value : x.1.now ≡ get_or cs k (pos 0) = ap (λ (p : ℕ × ℤ). p.1) at ∙ get_or_default cs k x.1.now (pos 0) short in
-    term_small x.0 (nat_abs x.1.now) (omega arith) (rw value (small_at cs k c.requires.small))
+    term_small x.0 (nat_abs x.1.now) (rw place low) (rw value (small_at cs k c.requires.small))
 
 pub sum-requires-clause-can : goal.sum-requires-clause-can
 sum-requires-clause-can c = (
