@@ -111,6 +111,7 @@ pub fn weight(coefficients: &[i64]) -> u64
 }
 
 // Test 15: the weight is neither above 2^40 nor above H.
+#[tactic(auto, unfolding(crate::specs::Tests::is_light))]
 pub fn light(weight: u64, length: u64) -> bool
     ensures { result ≡ is_light weight length }
 {

@@ -62,20 +62,18 @@ fn own_rank(coefficients: &[i64], length: u64) -> usize
 }
 
 // And with its join to the granule before, where there is one.
+#[tactic(auto, unfolding(crate::specs::Pass::joined_rank))]
 fn rank_of(own: usize, g: usize, before: Units, coefficients: &[i64]) -> usize
     requires { Summable coefficients.now }
     ensures { result ≡ joined_rank own g before.0 coefficients.now }
 {
     if own < JOIN {
-        return own;
+        own
+    } else if g == 0 || joined(before, alternating(coefficients)) {
+        NONE
+    } else {
+        JOIN
     }
-    if g == 0 {
-        return NONE;
-    }
-    if joined(before, alternating(coefficients)) {
-        return NONE;
-    }
-    JOIN
 }
 
 // The pass, with granule g.
