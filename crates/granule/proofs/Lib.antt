@@ -24,4 +24,6 @@ pub mod Bounded
 pub mod Digits
 pub mod Product
 pub mod Term
+pub mod Turns
 pub mod Sums
+pub mod Folds

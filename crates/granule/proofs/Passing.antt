@@ -1,13 +1,15 @@
 -- What a test that has passed says, in numbers: 14 of each coefficient, 15 of the weight, 16 of a
 -- join. Assumes nothing.
 use borrow.Author.Tests.{leb-true}
-use mathlib.Core.Path.{◌≡◌}
-use mathlib.Core.Bool.{true}
+use mathlib.Core.Path.{◌≡◌, refl}
+use mathlib.Core.Bool.{true, ◌&&◌}
 use mathlib.Core.List.{List, [], ◌∷◌}
 use Prim.Native.Nat.{ℕ, zero, suc, ◌+◌, ◌≤◌, zero-le}
 use lib.Dec.{leb}
 use lib.IntN.{ℤ, pos, ◌-ℤ◌, nat_abs}
 use lib.ListN.{length, get_or, drop}
+use Rattle.std.specs.List.{list_all}
+use Rattle.std.proofs.lemmas.List.Recursion.{same_from_clauses}
 use Rattle.numbers.proofs.Flags.{both}
 use Rattle.granule.specs.Bounds.{most_degree, shortest_length}
 use Rattle.granule.specs.Tests.{largest, heaviest, widest, is_within, is_small, is_light, is_joined, weight_of, plain_sum, alternating_sum, Passed, Meeting}
@@ -15,6 +17,11 @@ use Rattle.granule.specs.Tests.{largest, heaviest, widest, is_within, is_small, 
 pub small_cons : (c : ℤ) (cs : List ℤ) → is_small (c ∷ cs) ≡ true → (nat_abs c ≤ largest) × (is_small cs ≡ true)
 unfolding is_small
 small_cons c cs e = let b = both (is_within c) (is_small cs) e in (leb-true (nat_abs c) largest b.0, b.1)
+
+-- and in std's word
+pub small_all : (cs : List ℤ) → list_all is_within cs ≡ is_small cs
+unfolding is_small
+small_all cs = same_from_clauses (list_all is_within) is_small (λ c b. is_within c && b) refl (λ _ _. refl) (λ _ _. refl) cs
 
 pub small_drop : (cs : List ℤ) (k : ℕ) → is_small cs ≡ true → is_small (drop k cs) ≡ true
 small_drop cs zero e = e

@@ -2,21 +2,24 @@
 -- be, for coefficients within 2^40. Assumes nothing.
 use mathlib.Core.Path.{◌≡◌, sym, ◌∙◌, ap}
 use mathlib.Core.Bool.{true}
-use mathlib.Core.List.{List, [], ◌∷◌}
-use Prim.Native.Nat.{ℕ, suc, ◌+◌, ◌*◌, ◌-◌, ◌^◌, ◌≤◌, ◌<◌}
-use native.Mathlib.Nat.{mul-le-mul, le_refl}
+use mathlib.Core.List.{List, [], ◌∷◌, ◌++◌, reverse, append-nil, append_assoc, reverse-append, reverse-reverse}
+use Prim.Native.Nat.{ℕ, suc, ◌+◌, ◌*◌, ◌^◌, ◌≤◌, ◌<◌}
+use native.Mathlib.Nat.{mul-le-mul}
 use native.Mathlib.Omega.{arith}
 use lib.IntN.{ℤ, pos, ◌+ℤ◌, ◌-ℤ◌, neg_ℤ, nat_abs}
-use lib.ListN.{length, get_or, drop, length-drop}
+use lib.Seq.{drop-append_seam}
+use lib.ListN.{length, drop, length-drop}
+use native.Mathlib.Numerals.{add-one}
+use Rattle.std.specs.List.{enumerate_from, sum_by}
+use Rattle.std.proofs.lemmas.List.Sums.{sum_by-cons}
 use mir.Syntax.{w64}
 use mir.Val.{SFits}
 use Rattle.numbers.proofs.Order.{abs_neg, abs-+}
 use Rattle.numbers.proofs.Machine.{fits, read, read_is}
 use Rattle.granule.specs.Bounds.{most_degree}
-use Rattle.granule.specs.Tests.{largest, is_small, weight_from, plain_sum, alternating_sum}
+use Rattle.granule.specs.Tests.{largest, is_small, weight_from, weight_of, plain_sum, alternating_sum}
 use Rattle.granule.specs.Asked.{Summable}
 use Rattle.granule.proofs.Clauses.{weight_nil, weight_cons, plain_nil, plain_cons, alternating_nil, alternating_cons}
-use Rattle.granule.proofs.Downward.{drop_past, drop_back}
 use Rattle.granule.proofs.Passing.{small_cons, small_drop}
 
 -- ---- the plain and the alternating sum: each coefficient is joined to the sum of the later ones
@@ -45,21 +48,43 @@ module _ (sum : List ℤ → ℤ) (op : ℤ → ℤ → ℤ) (joins : Joins sum 
       let l : length (drop k cs) ≤ most_degree + 1 = simp length-drop (omega arith) in
       fits (sum (drop k cs)) (omega (arith, sum_small (drop k cs) (small_drop cs k s.small)))
 
-  -- past the last coefficient, and over the turn that comes to c_(k−1), in the words of the code
-  pub sum_begins : (cs : List ℤ) → pos 0 ≡ sum (drop (length cs) cs)
-  sum_begins cs = sym joins.none ∙ ap sum (sym (drop_past cs (length cs) (le_refl (length cs))))
+  -- as a loop from the last coefficient down has the sum after ys: it is that of ys in their order,
+  -- and takes the next coefficient x, in the words of the code
+  abbrev pub Summed : List ℤ → List ℤ → ℤ → Type 0
+  Summed cs ys s = (zs : List ℤ) → ys ++ zs ≡ reverse cs → s ≡ sum (reverse ys)
 
-  pub sum_turns : (cs : List ℤ) (k : ℕ) (s : ℤ) → Summable cs → 0 < k → k ≤ length cs
-      → SFits w64 (get_or cs (k - 1) (pos 0)) → s ≡ sum (drop k cs)
-      → let next = op (read (read (get_or cs (k - 1) (pos 0)))) (read s) in SFits w64 next
-      × (read next ≡ sum (drop (k - 1) cs))
-  sum_turns cs k s summable h l f e =
-      let c = get_or cs (k - 1) (pos 0) in
-      let s_is : read s ≡ sum (drop k cs) = rw e (read_is _ (sum_fits cs k summable)) in
-      let turn : op (read (read c)) (read s) ≡ sum (drop (k - 1) cs) =
-      rw (read_is c f, read_is c f, s_is) (sym (ap sum (drop_back cs k h l) ∙ joins.one c (drop k cs))) in
-      let fit = sum_fits cs (k - 1) summable in
-      (rw turn fit, rw turn (read_is _ fit))
+  pub sum_begins : (cs : List ℤ) → Summed cs [] (pos 0)
+  sum_begins cs zs e = sym joins.none
+
+  pub sum_ends : (cs : List ℤ) (s : ℤ) → Summed cs (reverse cs) s → s ≡ sum cs
+  sum_ends cs s h = h [] (append-nil (reverse cs)) ∙ ap sum (reverse-reverse cs)
+
+  reached : (cs ys zs : List ℤ) (x : ℤ) → ys ++ x ∷ zs ≡ reverse cs → drop (length (reverse zs)) cs ≡ x ∷ reverse ys
+  reached cs ys zs x e =
+      let back : reverse zs ++ (x ∷ reverse ys) ≡ cs =
+      sym (append_assoc (reverse zs) (x ∷ []) (reverse ys))
+      ∙ ap (λ (l : List ℤ). l ++ reverse ys) (sym (reverse-append (x ∷ []) zs))
+      ∙ sym (reverse-append ys (x ∷ zs))
+      ∙ ap reverse e
+      ∙ reverse-reverse cs in
+      ap (drop (length (reverse zs))) (sym back) ∙ drop-append_seam (reverse zs) (x ∷ reverse ys)
+
+  pub sum_turns : (cs ys zs : List ℤ) (x s : ℤ) → Summable cs → ys ++ x ∷ zs ≡ reverse cs → Summed cs ys s
+      → SFits w64 (op (read x) (read s))
+      × (read (op (read x) (read s)) ≡ sum (reverse (ys ++ x ∷ [])))
+  sum_turns cs ys zs x s summable e h =
+      let k = length (reverse zs) in
+      let at = reached cs ys zs x e in
+      let few = summable.few in
+      let small = rw at at (small_drop cs k summable.small) in
+      let one = small_cons x (reverse ys) small in
+      let fit = rw at at (sum_fits cs k summable) in
+      let long = rw at at (length-drop k cs) in
+      let later = sum_small (reverse ys) one.1 in
+      let s_is : read s ≡ sum (reverse ys) = rw (h (x ∷ zs) e) (read_is _ (fits (sum (reverse ys)) (omega (arith, one.0)))) in
+      let x_is : read x ≡ x = read_is x (fits x (omega (arith, one.0))) in
+      let turn : op (read x) (read s) ≡ sum (x ∷ reverse ys) = rw (x_is, s_is) (sym (joins.one x (reverse ys))) in
+      (rw turn fit, rw turn (read_is _ fit) ∙ ap sum (sym (reverse-append ys (x ∷ []))))
 
 -- ---- the weight
 -- the most that k² is
@@ -78,8 +103,20 @@ weight_small k (c ∷ cs) e h =
     let t = term_small k (nat_abs c) (omega arith) s.0 in
     rw (weight_cons k c cs) (omega (arith, weight_small (suc k) cs s.1 (omega arith)))
 
-pub weight_bounded : (k : ℕ) (cs : List ℤ) → Summable cs → k ≤ length cs → weight_from k (drop k cs) ≤ 2 ^ 52
-weight_bounded k cs s h =
-    let few = s.few in
-    let l = length-drop k cs in
-    omega (arith, weight_small k (drop k cs) (small_drop cs k s.small) (omega arith))
+-- and in std's words
+abbrev pub term_of : ℕ × ℤ → ℕ
+term_of (k, c) = k * k * nat_abs c
+
+weight_summed : (k : ℕ) (cs : List ℤ) → sum_by term_of (enumerate_from k cs) ≡ weight_from k cs
+weight_summed k [] = sym (weight_nil k)
+weight_summed k (c ∷ cs) =
+    sum_by-cons term_of (k, c) (enumerate_from (k + 1) cs)
+    ∙ ap (λ (n : ℕ). k * k * nat_abs c + n) (ap (λ (j : ℕ). sum_by term_of (enumerate_from j cs)) (add-one k) ∙ weight_summed (suc k) cs)
+    ∙ sym (weight_cons k c cs)
+
+pub weight_is : (cs : List ℤ) → sum_by term_of (enumerate_from 0 cs) ≡ weight_of cs
+unfolding weight_of
+weight_is cs = weight_summed 0 cs
+
+pub terms_fit : (cs : List ℤ) → Summable cs → sum_by term_of (enumerate_from 0 cs) < 2 ^ 64
+terms_fit cs s = let few = s.few in rw (weight_summed 0 cs) (omega (arith, weight_small 0 cs s.small (omega arith)))

@@ -1,6 +1,6 @@
 -- What the inner functions ask of their callers. All of it follows from the bounds of 01 and from
 -- test 14; without it the numbers would not fit 64 bits.
-use Rattle.std.specs.Prelude.{◌≡◌, true, List, ℕ, ◌+◌, ◌^◌, ◌≤◌, ℤ, nat_abs, length}
+use Rattle.std.specs.Prelude.{◌≡◌, ◌⊎◌, true, List, ℕ, ◌+◌, ◌^◌, ◌≤◌, ℤ, nat_abs, length}
 use Rattle.granule.specs.Bounds.{most_degree, shortest_length, longest_length}
 use Rattle.granule.specs.Rule.{scale}
 use Rattle.granule.specs.Tests.{largest, is_small}
@@ -16,6 +16,10 @@ pub record InGranule (place H : ℕ) : Type 0 where
 pub record Factors (u b : ℤ) : Type 0 where
   pub argument : nat_abs u ≤ scale
   pub bounded : nat_abs b ≤ 2 ^ 60
+
+-- the divisor of one is 2^29, or 2^30 in the last
+abbrev pub IsDivisor : ℕ → Type 0
+IsDivisor bits = (bits ≡ 29) ⊎ (bits ≡ 30)
 
 -- the numbers that a b_k, or v, is made of
 pub record Terms (u c b₁ b₂ : ℤ) : Type 0 where

@@ -54,21 +54,18 @@ abbrev with_join : ℕ → Bool → ℕ
 with_join r v = cond (ltb r join_rank) r (cond v none_rank join_rank)
 
 -- and with it
-module _ (granule : ℕ → List ℤ) (H g : ℕ) (x : ℤ) (c : List ℤ) (here : Alike c (granule g))
-    (before : (k : ℕ) → g ≡ suc k → x ≡ plain_sum (granule k)) where
-  rank_is : joined_rank (rank (own_rules H) c) g x c ≡ rank (granule_rules H granule) g
+module _ (granule : ℕ → List ℤ) (H g : ℕ) (x : ℤ) (before : (k : ℕ) → g ≡ suc k → x ≡ plain_sum (granule k)) where
+  rank_is : joined_rank (rank (own_rules H) (granule g)) g x (granule g) ≡ rank (granule_rules H granule) g
   unfolding joined_rank
   rank_is =
-      ap (λ (z : ℤ). with_join (rank (own_rules H) c) (eqb g 0 || is_joined x z)) (here.same alternating_sum alternating_ignores)
-      ∙ ap (with_join (rank (own_rules H) c)) (join_is granule x g before)
-      ∙ ap (λ (r : ℕ). with_join r (is_join granule g)) (own_same H here)
+      ap (with_join (rank (own_rules H) (granule g))) (join_is granule x g before)
       ∙ ap (cond (ltb (rank (own_rules H) (granule g)) join_rank) (rank (own_rules H) (granule g))) (join_rank_lem granule g)
       ∙ sym (rank_more granule (own_rules H) (rule 16 (is_join granule) ∷ []) g)
 
-  own_first : rank (own_rules H) c ≡ 0 → rank (granule_rules H granule) g ≡ 0
+  own_first : rank (own_rules H) (granule g) ≡ 0 → rank (granule_rules H granule) g ≡ 0
   own_first e =
       rank_more granule (own_rules H) (rule 16 (is_join granule) ∷ []) g
-      ∙ rw (sym (own_same H here) ∙ e)
+      ∙ rw e
 
 joined_some : (own g : ℕ) (x : ℤ) (c : List ℤ) → (own ≡ 0 → ⊥) → 0 < joined_rank own g x c
 unfolding joined_rank
@@ -78,6 +75,11 @@ joined_some own g x c n = by (ltb own join_rank) (eqb g 0 || is_joined x (altern
     by true w = omega arith
     by false true = omega arith
     by false false = omega arith
+
+-- coefficients that are alike are one to the pass
+pub scan_alike : (scan : Scan) (g H : ℕ) {c d : List ℤ} → Alike c d → scan_next scan g c H ≡ scan_next scan g d H
+unfolding scan_next joined_rank
+scan_alike scan g H a = rw (own_same H a, a.same alternating_sum alternating_ignores, a.same plain_sum plain_ignores) refl
 
 -- ---- what is so after the first g granules: none of them fails the first test
 pub record Scanned (granule : ℕ → List ℤ) (H g : ℕ) (scan : Scan) : Type 0 where
@@ -108,8 +110,10 @@ was_lowest r x e = by (ℕ_discrete r 0)
     by (yes z) = z
     by (no n) = let d : Some x ≡ None = rw (ne_eqb r 0 n) at e in let w : ◌≡◌ {A = ℕ} 0 1 = cc in let no : ⊥ = omega arith in absurd no
 
-module _ (granule : ℕ → List ℤ) (H g : ℕ) (scan : Scan) (c : List ℤ) (here : Alike c (granule g))
-    (sc : Scanned granule H g scan) where
+module _ (granule : ℕ → List ℤ) (H g : ℕ) (scan : Scan) (sc : Scanned granule H g scan) where
+  abbrev c : List ℤ
+  c = granule g
+
   abbrev own : ℕ
   own = rank (own_rules H) c
 
@@ -117,10 +121,10 @@ module _ (granule : ℕ → List ℤ) (H g : ℕ) (scan : Scan) (c : List ℤ) (
   ranked = joined_rank own g scan.plain.0 c
 
   ranked_is : ranked ≡ rank (granule_rules H granule) g
-  ranked_is = rank_is granule H g scan.plain.0 c here sc.plain
+  ranked_is = rank_is granule H g scan.plain.0 sc.plain
 
   kept : (k : ℕ) → g + 1 ≡ suc k → plain_sum c ≡ plain_sum (granule k)
-  kept k z = here.same plain_sum plain_ignores ∙ ap (λ (n : ℕ). plain_sum (granule n)) (same z)
+  kept k z = ap (λ (n : ℕ). plain_sum (granule n)) (same z)
     where
       same : g + 1 ≡ suc k → g ≡ k
       same z = omega arith
@@ -157,7 +161,7 @@ module _ (granule : ℕ → List ℤ) (H g : ℕ) (scan : Scan) (c : List ℤ) (
   unfolding scan_next
   scanned_lowest t same h e answer a =
       let z = was_lowest own _ e in
-      let f = own_first granule H g scan.plain.0 c here sc.plain z in
+      let f = own_first granule H g scan.plain.0 sc.plain z in
       a.is H granule
       ∙ by_rank tested_refused (Ok tt) (granule_rules H granule) t.count 0 g
       (best_first _ none_rank g scan.rank scan.place sc.best sc.some f t.count h)

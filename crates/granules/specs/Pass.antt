@@ -1,7 +1,7 @@
 -- The one pass over the granules: what it keeps, and what it asks.
 use Rattle.granules.specs.Answers.{Tested, tested_refused}
 use Rattle.std.specs.Prelude.{None, Ok, Option, Some, ◌≡◌, true, cond, ◌||◌, List, ℕ, ◌*◌, ◌+◌, ◌≤◌}
-use Rattle.std.specs.Prelude.{◌<◌, ltb, eqb, ℤ, length}
+use Rattle.std.specs.Prelude.{◌<◌, ltb, eqb, ℤ, length, nat_abs}
 use Rattle.numbers.specs.Tests.{rank, told}
 use Rattle.granule.specs.Bounds.{most_degree}
 use Rattle.granule.specs.Tests.{plain_sum, alternating_sum, is_joined}
@@ -29,6 +29,12 @@ unfoldable pub scan_next : Scan → ℕ → List ℤ → ℕ → Option Scan
 scan_next scan g c H =
     cond (eqb (rank (own_rules H) c) 0) None
     (Some (scan_after scan g (joined_rank (rank (own_rules H) c) g scan.plain.0 c) (plain_sum c)))
+
+-- what looks at a granule finds what comes after it
+abbrev pub Finds : (Scan → ℕ → Option Scan → Type 0) → Table → (ℕ → List ℤ) → Type 0
+Finds found t granule =
+    (scan : Scan) (g : ℕ) (next : Option Scan) → g < t.count → found scan g next
+    → next ≡ scan_next scan g (granule g) (nat_abs t.length)
 
 -- what is told at its end: the numbers of the rules, whatever they are over
 pub record RankTold (r place : ℕ) (answer : Tested) : Type 0 where

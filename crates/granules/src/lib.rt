@@ -4,13 +4,13 @@
 // there is and ends the pass, so that the sums of every granule passed fit 64 bits.
 #![tactic(auto)]
 
-ghost use Rattle.std.specs.Prelude.{◌≡◌};
+ghost use Rattle.std.specs.Prelude.{◌≡◌, ℕ, ◌<◌, List, ℤ};
 ghost use Rattle.granule.specs.Asked.{Summable};
 ghost use Rattle.image.specs.Asked.{WholeTable};
 ghost use Rattle.numbers.specs.Tests.{rank};
-ghost use Rattle.granules.specs.Tests.{own_rules};
-ghost use Rattle.granules.specs.Answers.{tested_stored, tested_listed};
-ghost use Rattle.granules.specs.Pass.{joined_rank, scan_next, Short, Formed, RankTold};
+ghost use Rattle.granules.specs.Tests.{own_rules, granule_tests};
+ghost use Rattle.granules.specs.Answers.{tested_by, tested_stored, tested_listed};
+ghost use Rattle.granules.specs.Pass.{joined_rank, scan_next, Short, Formed, Finds, RankTold};
 
 use granule::{Units, alternating, joined, light, plain, small, weight};
 use image::table::Table;
@@ -18,7 +18,7 @@ use image::take::stored;
 use scales::refusal::Refusal;
 
 // What the pass keeps: the lowest rank so far with its granule, and the plain sum of the last one.
-#[derive(Clone, Copy)]
+#[derive(Clone, Copy, Debug, PartialEq, Eq)]
 pub struct Scan {
     pub rank: usize,
     pub place: usize,
@@ -48,20 +48,18 @@ fn own_rank(coefficients: &[i64], length: u64) -> usize
 }
 
 // And with its join to the granule before, where there is one.
+#[tactic(auto, unfolding(crate::specs::Pass::joined_rank))]
 fn rank_of(own: usize, g: usize, before: Units, coefficients: &[i64]) -> usize
     requires { Summable coefficients.now }
     ensures { result ≡ joined_rank own g before.0 coefficients.now }
 {
     if own < JOIN {
-        return own;
+        own
+    } else if g == 0 || joined(before, alternating(coefficients)) {
+        NONE
+    } else {
+        JOIN
     }
-    if g == 0 {
-        return NONE;
-    }
-    if joined(before, alternating(coefficients)) {
-        return NONE;
-    }
-    JOIN
 }
 
 // The pass, with granule g; none where it fails the first test, since none can be lower.
@@ -83,11 +81,7 @@ fn look_at(scan: Scan, g: usize, coefficients: &[i64], length: u64) -> Option<Sc
             plain: sum,
         });
     }
-    Some(Scan {
-        rank: scan.rank,
-        place: scan.place,
-        plain: sum,
-    })
+    Some(Scan { plain: sum, ..scan })
 }
 
 // What a rank tells of a granule: its test's number, or that it has passed.
@@ -104,6 +98,29 @@ fn told(rank: usize, place: usize) -> Result<(), Refusal>
     })
 }
 
+// The one pass over a table's granules, by what looks at each.
+fn pass_over<F: Fn(Scan, usize) -> Option<Scan>>(
+    table: Table,
+    look: F,
+) -> Result<(), Refusal>
+    requires { (scan : _) (g : ℕ) → g < table.count → F.pre look scan g }
+    ensures { (granule : ℕ → List ℤ) → Finds (F.post look) table granule
+        → result ≡ tested_by (granule_tests table granule) }
+{
+    let mut scan = Scan {
+        rank: NONE,
+        place: 0,
+        plain: Units(0),
+    };
+    for g in 0..table.count as usize {
+        let Some(onward) = look(scan, g) else {
+            return told(0, g);
+        };
+        scan = onward;
+    }
+    told(scan.rank, scan.place)
+}
+
 // The coefficients of a table in bytes, whose bounds and blocks are right: so all sixteen of a
 // granule are looked at, 'those above the degree zero'.
 pub fn test_stored(bytes: &[u8], table: Table) -> Result<(), Refusal>
@@ -111,21 +128,7 @@ pub fn test_stored(bytes: &[u8], table: Table) -> Result<(), Refusal>
     ensures { result ≡ tested_stored bytes.now table }
 {
     let length = table.length as u64;
-    let mut scan = Scan {
-        rank: NONE,
-        place: 0,
-        plain: Units(0),
-    };
-    let mut g = 0;
-    while g < table.count as usize {
-        let all = stored(bytes, g);
-        let Some(onward) = look_at(scan, g, &all, length) else {
-            return told(0, g);
-        };
-        scan = onward;
-        g += 1;
-    }
-    told(scan.rank, scan.place)
+    pass_over(table, |scan, g| look_at(scan, g, &stored(bytes, g), length))
 }
 
 // The coefficients of a table in a list, granule by granule, whose bounds are right.
@@ -135,20 +138,9 @@ pub fn test_listed(coefficients: &[i64], table: Table) -> Result<(), Refusal>
 {
     let width = table.degree as usize + 1;
     let length = table.length as u64;
-    let mut scan = Scan {
-        rank: NONE,
-        place: 0,
-        plain: Units(0),
-    };
-    let mut g = 0;
-    while g < table.count as usize {
+    pass_over(table, |scan, g| {
         let from = g * width;
         let to = from + width;
-        let Some(onward) = look_at(scan, g, &coefficients[from..to], length) else {
-            return told(0, g);
-        };
-        scan = onward;
-        g += 1;
-    }
-    told(scan.rank, scan.place)
+        look_at(scan, g, &coefficients[from..to], length)
+    })
 }

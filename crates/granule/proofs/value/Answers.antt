@@ -1,217 +1,140 @@
-use borrow.Author.Rules.{rules}
-use mathlib.Core.Path.{◌≡◌, refl, sym, ◌∙◌, ap}
+use mathlib.Core.Path.{◌≡◌, refl, ◌∙◌}
 use mathlib.Core.List.{List}
-use Prim.Native.Nat.{ℕ, suc, ◌-◌, ◌^◌, ◌<◌}
+use Prim.Native.Nat.{ℕ, suc, ◌-◌, ◌≤◌, ◌<◌}
 use native.Mathlib.Omega.{arith}
-use lib.Dec.{lit<}
-use lib.IntN.{ℤ, pos, ◌+ℤ◌, ◌-ℤ◌, ◌*ℤ◌}
+use lib.IntN.{ℤ, pos}
 use lib.ListN.{length, get_or}
-use Rattle.numbers.specs.Rounding.{nearest}
-use Rattle.numbers.proofs.Differences.{rep, lin}
 use Rattle.numbers.proofs.Machine.{read, read_is}
-use Rattle.numbers.proofs.Rounding.{nearest_none}
-use Rattle.granule.specs.Rule.{scale, p_of, u_of, b_at, v_of, value_at}
-use Rattle.granule.specs.Asked.{Terms}
-use Rattle.granule.proofs.Clauses.{b_top, b_turn}
-use Rattle.granule.proofs.Downward.{suc_before}
-use Rattle.granule.proofs.Bounded.{terms}
+use Rattle.granule.specs.declared.Units.{Units}
+use Rattle.granule.specs.Rule.{p_of, u_of}
+use Rattle.granule.proofs.Turns.{Turned, left_at, shortened, alone, starts, coefficient, fit, turns, ends}
 use Rattle.granule.proofs.value.Goals as goal
-use Rattle.granule.proofs.value.Goals.{After-argument-u, After-b_of-b, After-b_of-b1, After-b_of-b2, At-loop-k, Else-k-eq0}
-
--- what is made of c_k where nothing stands above it
-only : (u c : ℤ) (d : ℕ) → 0 < d → c +ℤ nearest (u *ℤ pos 0) d -ℤ pos 0 ≡ c
-only u c d h = ap (λ (z : ℤ). c +ℤ nearest z d -ℤ pos 0) (none u) ∙ ap (λ (z : ℤ). c +ℤ z -ℤ pos 0) (nearest_none (pos 0) d h) ∙ same c
-  where
-    none : (u : ℤ) → u *ℤ pos 0 ≡ pos 0
-    none = rep _ (λ a b. simp lin (omega arith))
-
-    same : (c : ℤ) → c +ℤ pos 0 -ℤ pos 0 ≡ c
-    same = rep _ (λ a b. simp lin (omega arith))
-
--- b_n, and v
-first : (u : ℤ) (cs : List ℤ) (k : ℕ) → suc k ≡ length cs → get_or cs k (pos 0) ≡ b_at u cs k
-first u cs k e =
-    let above = b_top u cs (suc k) (omega arith) in
-    let next = b_top u cs (suc (suc k)) (omega arith) in
-    sym (rw (above, next) at (b_turn u cs k (omega arith)) ∙ only u (get_or cs k (pos 0)) (2 ^ 29) (lit< tt))
-
-end : (cs : List ℤ) (place H : ℕ) → value_at cs place H
-    ≡ get_or cs 0 (pos 0) +ℤ nearest (u_of (p_of place H) H *ℤ b_at (u_of (p_of place H) H) cs 1) scale
-    -ℤ b_at (u_of (p_of place H) H) cs 2
-unfolding value_at v_of
-end cs place H = refl
-
-alone : (cs : List ℤ) (place H : ℕ) → length cs ≡ 1 → value_at cs place H ≡ get_or cs 0 (pos 0)
-alone cs place H e =
-    let u = u_of (p_of place H) H in
-    let one = b_top u cs 1 (omega arith) in
-    let two = b_top u cs 2 (omega arith) in
-    end cs place H ∙ rw (one, two) (only u (get_or cs 0 (pos 0)) scale (lit< tt))
+use Rattle.granule.proofs.value.Goals.{After-argument-u, After-turn-b2, After-turn-b1, After-turn-b, At-loop-left}
 
 made : (c : After-argument-u)
     → read c.argument-u.result
     ≡ u_of (p_of c.args.place c.args.length) c.args.length
 made c = read_is _ (record { sfits = c.argument-u.type_inv }) ∙ c.argument-u.ensures
 
--- the page's numbers at the loop
-abbrev coefficients_of : At-loop-k → List ℤ
-coefficients_of o = o.args.coefficients.now
+pub returns-in_default : goal.returns-in_default
+returns-in_default c = alone c.args.coefficients.now c.args.place c.args.length c.requires c.in_default.len_below
 
-abbrev u_of_lem : At-loop-k → ℤ
-u_of_lem o = u_of (p_of o.args.place o.args.length) o.args.length
+pub loop-left-init : goal.loop-left-init
+loop-left-init c = starts c.args.coefficients.now c.args.place c.args.length c.requires c.in-len2-up.len_at_least
 
-abbrev b_of : At-loop-k → ℕ → ℤ
-b_of o k = b_at (u_of_lem o) (coefficients_of o) k
+-- the numbers at the loop, with c_k the last that is left
+abbrev coefficients_of : At-loop-left → List ℤ
+coefficients_of c = c.args.coefficients.now
 
-terms_of : (o : At-loop-k) (k : ℕ)
-    → Terms (u_of_lem o) (get_or (coefficients_of o) k (pos 0)) (b_of o (suc k)) (b_of o (suc (suc k)))
-terms_of o k = terms o.args.coefficients.now o.args.place o.args.length k o.requires
+abbrev left_of : At-loop-left → List ℤ
+left_of c = c.loop-left.left.now
 
--- b_k, b_(k−1) below it, and where one is left b_1
-upper : (c : After-b_of-b2)
-    → c.b_of-b2.result.0 ≡ b_of (goal.at.After-b_of-b2 c).At-loop-k c.loop-k.k
-upper c =
-    let l = c.loop-k.invariant in
-    (rw (made c.before.before.before.before.before, read_is (get_or c.args.coefficients.now c.loop-k.k (pos 0)) (search rules), l.1, l.2) at c.b_of-b2.ensures)
-    ∙ sym (b_turn (u_of_lem (goal.at.After-b_of-b2 c).At-loop-k) (coefficients_of (goal.at.After-b_of-b2 c).At-loop-k) c.loop-k.k (omega (arith, l.0)))
+abbrev many : At-loop-left → ℕ
+many c = length (left_of c)
 
-lower : (c : After-b_of-b1)
-    → c.b_of-b1.result.0
-    ≡ b_of (goal.at.After-b_of-b1 c).At-loop-k (c.loop-k.k - 1)
-lower c =
-    let k = c.loop-k.k in
-    let l = c.loop-k.invariant in
-    let more = c.loop-k-test.true in
-    (rw (
-      made c.before.before.before.before.before.before.before,
-      read_is (get_or c.args.coefficients.now (c.loop-k.k - 1) (pos 0)) (search rules),
-      l.1,
-      upper
-          c.before.before,
-    ) at c.b_of-b1.ensures)
-    ∙ sym (rw (suc_before k (omega (arith, more)))
-    at (b_turn (u_of_lem (goal.at.After-b_of-b1 c).At-loop-k) (coefficients_of (goal.at.After-b_of-b1 c).At-loop-k) (k - 1) (omega (arith, l.0))))
+abbrev TurnedTo : At-loop-left → ℕ → Units → Units → Type 0
+TurnedTo c k b₁ b₂ = Turned c.args.coefficients.now c.args.place c.args.length k b₁.0 b₂.0
 
-one_left : (c : Else-k-eq0) → c.loop-k.k ≡ 1
-one_left c = omega (arith, c.if-k-eq0.false, c.loop-k-test.false)
+-- the i-th that is left is c_k
+read_at : (c : At-loop-left) (i k : ℕ) → suc i ≡ k → k ≤ many c
+    → read (get_or (left_of c) i (pos 0)) ≡ get_or (coefficients_of c) k (pos 0)
+read_at c i k = left_at c.args.coefficients.now c.args.place c.args.length c.requires c.loop-left.left.now i k c.loop-left.invariant.front
 
-last : (c : After-b_of-b)
-    → c.b_of-b.result.0 ≡ b_of (goal.at.After-b_of-b c).At-loop-k 1
+upper : (c : At-loop-left) → 1 ≤ many c
+    → read (get_or (left_of c) (many c - 1) (pos 0)) ≡ get_or (coefficients_of c) (many c) (pos 0)
+upper c h = read_at c (many c - 1) (many c) (omega arith) (omega arith)
+
+lower : (c : At-loop-left) → 2 ≤ many c
+    → read (get_or (left_of c) (many c - 2) (pos 0)) ≡ get_or (coefficients_of c) (many c - 1) (pos 0)
+lower c h = read_at c (many c - 2) (many c - 1) (omega (arith, h)) (omega (arith, h))
+
+pub turn-b2-requires-clause-terms : goal.turn-b2-requires-clause-terms
+turn-b2-requires-clause-terms c =
+    let o = (goal.at.turn-b2-requires-clause-terms c).At-loop-left in
+    fit c.args.coefficients.now c.args.place c.args.length c.requires _ (made (goal.at.turn-b2-requires-clause-terms c).After-argument-u)
+    (many o) c.loop-left.b1.0 c.loop-left.b2.0 c.loop-left.invariant.turned _
+    (upper o (omega (arith, c.in-len2-up-left.len_at_least)))
+
+-- with c_k taken, one fewer is left
+first : (c : After-turn-b2) → 2 ≤ length c.loop-left.left.now
+    → TurnedTo (goal.at.After-turn-b2 c).At-loop-left (length c.loop-left.left.now - 1) c.turn-b2.result c.loop-left.b1
+first c h =
+    let o = (goal.at.After-turn-b2 c).At-loop-left in
+    turns c.args.coefficients.now c.args.place c.args.length c.requires _ (made (goal.at.After-turn-b2 c).After-argument-u)
+    (many o) c.loop-left.b1.0 c.loop-left.b2.0 c.loop-left.invariant.turned _ _
+    (upper o (omega (arith, h))) c.turn-b2.ensures (omega (arith, h))
+
+pub turn-b1-requires-clause-terms : goal.turn-b1-requires-clause-terms
+turn-b1-requires-clause-terms c =
+    let o = (goal.at.turn-b1-requires-clause-terms c).At-loop-left in
+    let two = c.in-len2-up-left.len_at_least in
+    fit c.args.coefficients.now c.args.place c.args.length c.requires _ (made (goal.at.turn-b1-requires-clause-terms c).After-argument-u)
+    (many o - 1) c.turn-b2.result.0 c.loop-left.b1.0
+    (first (goal.at.turn-b1-requires-clause-terms c).After-turn-b2 two) _ (lower o two)
+
+pub loop-left-preserved : goal.loop-left-preserved
+loop-left-preserved c =
+    let o = (goal.at.loop-left-preserved c).At-loop-left in
+    let two = c.in-len2-up-left.len_at_least in
+    let less : many o - 1 - 1 ≡ many o - 2 = omega arith in
+    let t = turns c.args.coefficients.now c.args.place c.args.length c.requires _ (made (goal.at.loop-left-preserved c).After-argument-u)
+    (many o - 1) c.turn-b2.result.0 c.loop-left.b1.0 (first (goal.at.loop-left-preserved c).After-turn-b2 two) _ _
+    (lower o two) c.turn-b1.ensures (omega (arith, two)) in
+    shortened c.args.coefficients.now c.args.place c.args.length c.requires c.loop-left.left.now
+    (many o - 2) _ _ c.loop-left.invariant.front (omega arith) (rw less at t)
+
+-- c_0, as it is read
+lowest : (c : At-loop-left) → read (get_or (coefficients_of c) 0 (pos 0)) ≡ get_or (coefficients_of c) 0 (pos 0)
+lowest c = coefficient c.args.coefficients.now c.args.place c.args.length c.requires 0
+
+-- where none is left, v is made of what there is
+none : (c : At-loop-left) → many c < 1 → TurnedTo c 0 c.loop-left.b1 c.loop-left.b2
+none c h = let e : many c ≡ 0 = omega (arith, h) in rw e at c.loop-left.invariant.turned
+
+pub turn-requires-clause-terms : goal.turn-requires-clause-terms
+turn-requires-clause-terms c =
+    let o = (goal.at.turn-requires-clause-terms c).At-loop-left in
+    fit c.args.coefficients.now c.args.place c.args.length c.requires _ (made (goal.at.turn-requires-clause-terms c).After-argument-u)
+    0 c.loop-left.b1.0 c.loop-left.b2.0 (none o c.in_default-left-2.len_below) _ (lowest o)
+
+pub returns-in_default-left-2 : goal.returns-in_default-left-2
+returns-in_default-left-2 c =
+    let o = (goal.at.returns-in_default-left-2 c).At-loop-left in
+    ends c.args.coefficients.now c.args.place c.args.length c.requires _ (made (goal.at.returns-in_default-left-2 c).After-argument-u)
+    0 c.loop-left.b1.0 c.loop-left.b2.0 (none o c.in_default-left-2.len_below) _ _ (lowest o) c.turn.ensures refl
+
+-- where one is left, it is c_1
+one : (c : At-loop-left) → 1 ≤ many c → many c < 2 → many c ≡ 1
+one c h l = omega (arith, h, l)
+
+second : (c : At-loop-left) → many c ≡ 1
+    → read (get_or (left_of c) 0 (pos 0)) ≡ get_or (coefficients_of c) (many c) (pos 0)
+second c h = read_at c 0 (many c) (omega (arith, h)) (omega arith)
+
+pub turn-b-requires-clause-terms : goal.turn-b-requires-clause-terms
+turn-b-requires-clause-terms c =
+    let o = (goal.at.turn-b-requires-clause-terms c).At-loop-left in
+    fit c.args.coefficients.now c.args.place c.args.length c.requires _ (made (goal.at.turn-b-requires-clause-terms c).After-argument-u)
+    (many o) c.loop-left.b1.0 c.loop-left.b2.0 c.loop-left.invariant.turned _
+    (second o (one o c.in-len1-up.len_at_least c.in_default-left.len_below))
+
+last : (c : After-turn-b) → TurnedTo (goal.at.After-turn-b c).At-loop-left 0 c.turn-b.result c.loop-left.b1
 last c =
-    let l = c.loop-k.invariant in
-    let one = one_left c.before.before in
-    let e₁ = rw one at l.1 in
-    let e₂ = rw one at l.2 in
-    (rw (made c.before.before.before.before.before.before.before, read_is (get_or c.args.coefficients.now 1 (pos 0)) (search rules), e₁, e₂)
-    at c.b_of-b.ensures)
-    ∙ sym (b_turn (u_of_lem (goal.at.After-b_of-b c).At-loop-k) (coefficients_of (goal.at.After-b_of-b c).At-loop-k) 1 (omega (arith, l.0)))
+    let o = (goal.at.After-turn-b c).At-loop-left in
+    let e = one o c.in-len1-up.len_at_least c.in_default-left.len_below in
+    let less : many o - 1 ≡ 0 = omega (arith, e) in
+    rw less at (turns c.args.coefficients.now c.args.place c.args.length c.requires _ (made (goal.at.After-turn-b c).After-argument-u)
+    (many o) c.loop-left.b1.0 c.loop-left.b2.0 c.loop-left.invariant.turned _ _
+    (second o e) c.turn-b.ensures (omega (arith, e)))
 
-pub overflow_sub-n : goal.overflow_sub-n
-overflow_sub-n c = c.requires.some
-
-pub bounds-coefficients-0 : goal.bounds-coefficients-0
-bounds-coefficients-0 c = c.requires.some
-
-pub returns-then-n-eq0 : goal.returns-then-n-eq0
-returns-then-n-eq0 c =
-    let one : length c.args.coefficients.now ≡ 1 = omega (arith, c.requires.some, c.if-n-eq0.true) in
-    read_is (get_or c.args.coefficients.now 0 (pos 0)) (search rules) ∙ sym (alone c.args.coefficients.now c.args.place c.args.length one)
-
-pub argument-u-requires : goal.argument-u-requires
-argument-u-requires c = c.requires.placed
-
-pub bounds-coefficients-n : goal.bounds-coefficients-n
-bounds-coefficients-n c = omega (arith, c.requires.some)
-
-pub overflow_sub-k : goal.overflow_sub-k
-overflow_sub-k c = omega (arith, c.if-n-eq0.false)
-
-pub loop-k-init : goal.loop-k-init
-loop-k-init c =
-    let cs = c.args.coefficients.now in
-    let u = u_of (p_of c.args.place c.args.length) c.args.length in
-    let n = length cs - 1 in
-    let some : 0 < n = omega (arith, c.if-n-eq0.false) in
-    let back = suc_before n some in (
-      omega (arith, some),
-      rw back (read_is (get_or c.args.coefficients.now (length c.args.coefficients.now - 1) (pos 0)) (search rules) ∙ first u cs n (omega (arith, some))),
-      rw back (sym (b_top u cs (suc n) (omega (arith, some)))),
-    )
-
-pub bounds-coefficients-k : goal.bounds-coefficients-k
-bounds-coefficients-k c = omega (arith, c.loop-k.invariant.0)
-
-pub b_of-b2-requires : goal.b_of-b2-requires
-b_of-b2-requires c =
-    rw (
-      made c.before.before.before.before,
-      read_is (get_or c.args.coefficients.now c.loop-k.k (pos 0)) (search rules),
-      c.loop-k.invariant.1,
-      c.loop-k.invariant.2,
-    ) (terms_of (goal.at.b_of-b2-requires c).At-loop-k c.loop-k.k)
-
-pub bounds-coefficients-k-in-loop-k : goal.bounds-coefficients-k-in-loop-k
-bounds-coefficients-k-in-loop-k c = omega (arith, c.loop-k.invariant.0)
-
-pub b_of-b1-requires : goal.b_of-b1-requires
-b_of-b1-requires c =
-    let k = c.loop-k.k in
-    let more = c.loop-k-test.true in
-    rw (
-      made c.before.before.before.before.before.before,
-      read_is (get_or c.args.coefficients.now (c.loop-k.k - 1) (pos 0)) (search rules),
-      c.loop-k.invariant.1,
-      upper c.before,
-    )
-    (rw (suc_before k (omega (arith, more))) at (terms_of (goal.at.b_of-b1-requires c).At-loop-k (k - 1)))
-
-pub loop-k-preserved : goal.loop-k-preserved
-loop-k-preserved c =
-    let k = c.loop-k.k in
-    let more = c.loop-k-test.true in
-    let one : suc (k - 2) ≡ k - 1 = omega (arith, more) in
-    let two : suc (k - 1) ≡ k = omega (arith, more) in
-    (omega (arith, c.loop-k.invariant.0, more), rw one (lower c), rw (one, two) (upper c.before.before))
-
-pub bounds-coefficients-0-2 : goal.bounds-coefficients-0-2
-bounds-coefficients-0-2 c = c.requires.some
-
-pub v_of-requires : goal.v_of-requires
-v_of-requires c =
-    let none : c.loop-k.k ≡ 0 = omega (arith, c.if-k-eq0.true) in
-    let e₁ = rw none at c.loop-k.invariant.1 in
-    let e₂ = rw none at c.loop-k.invariant.2 in
-    rw (made c.before.before.before.before.before, read_is (get_or c.args.coefficients.now 0 (pos 0)) (search rules), e₁, e₂)
-    (terms_of (goal.at.v_of-requires c).At-loop-k 0)
-
-pub returns-then-k-eq0 : goal.returns-then-k-eq0
-returns-then-k-eq0 c =
-    let none : c.loop-k.k ≡ 0 = omega (arith, c.if-k-eq0.true) in
-    let e₁ = rw none at c.loop-k.invariant.1 in
-    let e₂ = rw none at c.loop-k.invariant.2 in
-    (rw (made c.before.before.before.before.before.before, read_is (get_or c.args.coefficients.now 0 (pos 0)) (search rules), e₁, e₂) at c.v_of.ensures)
-    ∙ sym (end c.args.coefficients.now c.args.place c.args.length)
-
-pub bounds-coefficients-1 : goal.bounds-coefficients-1
-bounds-coefficients-1 c = omega (arith, c.loop-k.invariant.0)
-
-pub b_of-b-requires : goal.b_of-b-requires
-b_of-b-requires c =
-    let one = one_left c.before in
-    let e₁ = rw one at c.loop-k.invariant.1 in
-    let e₂ = rw one at c.loop-k.invariant.2 in
-    rw (made c.before.before.before.before.before.before, read_is (get_or c.args.coefficients.now 1 (pos 0)) (search rules), e₁, e₂)
-    (terms_of (goal.at.b_of-b-requires c).At-loop-k 1)
-
-pub v_of-requires-2 : goal.v_of-requires-2
-v_of-requires-2 c =
-    let e₁ = rw (one_left c.before.before) at c.loop-k.invariant.1 in
-    rw (made c.before.before.before.before.before.before.before, read_is (get_or c.args.coefficients.now 0 (pos 0)) (search rules), e₁, last c)
-    (terms_of (goal.at.v_of-requires-2 c).At-loop-k 0)
+pub turn-requires-2-clause-terms : goal.turn-requires-2-clause-terms
+turn-requires-2-clause-terms c =
+    let o = (goal.at.turn-requires-2-clause-terms c).At-loop-left in
+    fit c.args.coefficients.now c.args.place c.args.length c.requires _ (made (goal.at.turn-requires-2-clause-terms c).After-argument-u)
+    0 c.turn-b.result.0 c.loop-left.b1.0 (last (goal.at.turn-requires-2-clause-terms c).After-turn-b) _ (lowest o)
 
 pub returns : goal.returns
 returns c =
-    let e₁ = rw (one_left c.before.before.before) at c.loop-k.invariant.1 in
-    (rw (made c.before.before.before.before.before.before.before.before, read_is (get_or c.args.coefficients.now 0 (pos 0)) (search rules), e₁, last c.before)
-    at c.v_of-2.ensures)
-    ∙ sym (end c.args.coefficients.now c.args.place c.args.length)
+    let o = (goal.at.returns c).At-loop-left in
+    ends c.args.coefficients.now c.args.place c.args.length c.requires _ (made (goal.at.returns c).After-argument-u)
+    0 c.turn-b.result.0 c.loop-left.b1.0 (last (goal.at.returns c).After-turn-b) _ _ (lowest o) c.turn-2.ensures refl

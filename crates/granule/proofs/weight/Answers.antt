@@ -1,71 +1,65 @@
+-- `granule::weight` meets its contract: std's word for the chain is the page's sum. Assumes
+-- nothing.
 use borrow.Author.Rules.{rules}
-use mathlib.Core.Path.{◌≡◌, refl, sym, ◌∙◌, ap}
-use mathlib.Core.List.{List}
-use Prim.Native.Nat.{ℕ, ◌+◌, ◌*◌, ◌-◌, ◌≤◌, ◌<◌}
-use native.Mathlib.Nat.{le_refl}
+use mathlib.Core.Path.{◌≡◌, ◌∙◌, ap}
+use Prim.Native.Nat.{ℕ, ◌*◌, ◌^◌, ◌≤◌, ◌<◌}
+use native.Mathlib.Nat.{zero-add}
 use native.Mathlib.Omega.{arith}
 use lib.IntN.{ℤ, pos, nat_abs}
-use lib.ListN.{length, get_or, drop}
-use Rattle.numbers.proofs.Machine.{read_is}
-use Rattle.granule.specs.Tests.{largest, weight_from, weight_of}
-use Rattle.granule.proofs.Clauses.{weight_nil, weight_cons}
-use Rattle.granule.proofs.Downward.{drop_past, drop_back, suc_before}
+use lib.ListN.{length, get_or}
+use denote.Ref.{Bor}
+use Rattle.std.specs.List.{enumerate_from}
+use Rattle.std.proofs.lemmas.Iterator.{YieldsList, YieldsList-from_slice, YieldsList-from_map}
+use Rattle.std.proofs.lemmas.Iterator.Consumers.{YieldsList-at, YieldsList-from_enumerate, sum_by_from_yields_List, fits_by_from_yields_list}
+use Rattle.granule.specs.Bounds.{most_degree}
+use Rattle.granule.specs.Tests.{largest}
 use Rattle.granule.proofs.Passing.{small_at}
-use Rattle.granule.proofs.Sums.{most_square, term_small, weight_bounded}
+use Rattle.granule.proofs.Sums.{most_square, term_small, term_of, weight_is, terms_fit}
+use Rattle.std.specs.Iterator.Adapters.{map_source, enumerate_steps}
+use Rattle.std.proofs.lemmas.Fn.{fronts}
+use Rattle.std.proofs.lemmas.List.{get_or_default}
+use Rattle.std.proofs.lemmas.List.FromFn.{length-enumerate_from, get_or-enumerate_from}
+use Rattle.std.proofs.lemmas.Iterator.Adapters.{serves_from_places}
 use Rattle.granule.proofs.weight.Goals as goal
-use Rattle.granule.proofs.weight.Goals.{After-size-heavy}
+use Rattle.granule.proofs.weight.Goals.{After-map}
 
-begin : (cs : List ℤ) → 0 ≡ weight_from (length cs) (drop (length cs) cs)
-begin cs = sym (weight_nil (length cs)) ∙ ap (weight_from (length cs)) (sym (drop_past cs (length cs) (le_refl (length cs))))
+places : (c : After-map)
+    → YieldsList {B = ℕ × ℤ} (enumerate_steps fronts) (λ p. (p.0, p.1.now)) (map_source c.map.result)
+    (enumerate_from 0 c.args.coefficients.now)
+places c =
+    YieldsList-at c.map.ensures.source
+    (YieldsList-from_enumerate (YieldsList-at c.enumerate.ensures.source (YieldsList-from_slice c.args.coefficients.now cc)) cc)
 
-turn : (cs : List ℤ) (k x sum : ℕ) → 0 < k → k ≤ length cs → x ≡ nat_abs (get_or cs (k - 1) (pos 0))
-    → sum ≡ weight_from k (drop k cs)
-    → (k - 1) * (k - 1) * x + sum ≡ weight_from (k - 1) (drop (k - 1) cs)
-turn cs k x sum h l e f =
-    rw (e, f) (sym (ap (weight_from (k - 1)) (drop_back cs k h l) ∙ (rw (suc_before k h) at (weight_cons (k - 1) (get_or cs (k - 1) (pos 0)) (drop k cs)))))
-
-end : (cs : List ℤ) → weight_from 0 (drop 0 cs) ≡ weight_of cs
-unfolding weight_of
-end cs = refl
-
-abbrev all : After-size-heavy → List ℤ
-all c = c.args.coefficients.now
-
-abbrev at : After-size-heavy → ℕ
-at c = c.loop-k.k - 1
-
-sized : (c : After-size-heavy) → c.size-heavy.result ≡ nat_abs (get_or (all c) (at c) (pos 0))
-sized c = rw (read_is (get_or (all c) (at c) (pos 0)) (search rules)) at c.size-heavy.ensures
-
-turned : (c : After-size-heavy)
-    → at c * at c * c.size-heavy.result + c.loop-k.sum ≡ weight_from (at c) (drop (at c) (all c))
-turned c =
-    turn (all c) c.loop-k.k c.size-heavy.result c.loop-k.sum c.loop-k-test.true c.loop-k.invariant.0 (sized c) c.loop-k.invariant.1
-
--- the term, and the sum with it
-small : (c : After-size-heavy)
-    → (at c * at c ≤ most_square) × (at c * at c * c.size-heavy.result ≤ most_square * largest)
-small c =
+-- a term's factors
+sized : (c : After-map) (x : ℕ × Bor ℤ) (k : ℕ) → k < length (enumerate_from 0 c.args.coefficients.now)
+    → (x.0, x.1.now) ≡ get_or (enumerate_from 0 c.args.coefficients.now) k (x.0, x.1.now)
+    → (x.0 * x.0 ≤ most_square) × (x.0 * x.0 * nat_abs x.1.now ≤ most_square * largest)
+sized c x k l e =
+    let cs = c.args.coefficients.now in
     let few = c.requires.few in
-    term_small (at c) c.size-heavy.result (omega arith) (rw (sized c) (small_at (all c) (at c) c.requires.small))
+    let short : k < length cs = rw (length-enumerate_from 0 cs) at l in
+    let low : k ≤ most_degree = omega (arith, few, short) in
+    let at : (x.0, x.1.now) ≡ (k, get_or cs k x.1.now) = e ∙ rw (zero-add k) at (get_or-enumerate_from 0 cs k (x.0, x.1.now) short) in
+    let place : x.0 ≡ k = ap (λ (p : ℕ × ℤ). p.0) at in
+    let value : x.1.now ≡ get_or cs k (pos 0) = ap (λ (p : ℕ × ℤ). p.1) at ∙ get_or_default cs k x.1.now (pos 0) short in
+    term_small x.0 (nat_abs x.1.now) (rw place low) (rw value (small_at cs k c.requires.small))
 
-pub loop-k-init : goal.loop-k-init
-loop-k-init c = (le_refl _, begin c.args.coefficients.now)
+pub sum-requires-clause-can : goal.sum-requires-clause-can
+sum-requires-clause-can c = (
+  search rules,
+  serves_from_places (places c) (λ x q k. search rules) (λ x k l e. let s = sized c x k l e in search rules),
+)
 
-pub offset_bounds-coefficients-k : goal.offset_bounds-coefficients-k
-offset_bounds-coefficients-k c = omega arith
-
-pub overflow_mul-sum : goal.overflow_mul-sum
-overflow_mul-sum c = let s = small c in omega arith
-
-pub overflow_mul-sum-in-loop-k : goal.overflow_mul-sum-in-loop-k
-overflow_mul-sum-in-loop-k c = let s = small c in omega arith
-
-pub overflow_add-sum : goal.overflow_add-sum
-overflow_add-sum c = omega (arith, turned c, weight_bounded (at c) (all c) c.requires (omega arith))
-
-pub loop-k-preserved : goal.loop-k-preserved
-loop-k-preserved c = (omega arith, turned c)
+pub sum-requires-clause-fits : goal.sum-requires-clause-fits
+sum-requires-clause-fits c =
+    let cs = c.args.coefficients.now in
+    fits_by_from_yields_list term_of (enumerate_from 0 cs) c.map.result (2 ^ 64)
+    (YieldsList-from_map _ term_of (places c) c.map.ensures.closure (λ x r q k. search rules))
+    (terms_fit cs c.requires)
 
 pub returns : goal.returns
-returns c = let done : c.loop-k.k ≡ 0 = omega arith in (rw done at c.loop-k.invariant.1) ∙ end c.args.coefficients.now
+returns c =
+    let cs = c.args.coefficients.now in
+    sum_by_from_yields_List term_of (enumerate_from 0 cs) c.map.result c.sum.result c.sum.ensures.ran
+    (YieldsList-from_map _ term_of (places c.before) c.map.ensures.closure (λ x r q k. search rules))
+    ∙ weight_is cs
