@@ -9,7 +9,7 @@ use scales::answer::Converted;
 use scales::refusal::Refusal;
 
 #[repr(C)]
-#[derive(Clone, Copy, Debug, Default, PartialEq, Eq)]
+#[derive(Clone, Copy)]
 pub struct Answer {
     pub number: u32,
     pub steps: u32,
@@ -19,7 +19,7 @@ pub struct Answer {
 }
 
 #[repr(C)]
-#[derive(Clone, Copy, Debug, Default, PartialEq, Eq)]
+#[derive(Clone, Copy)]
 pub struct TableAnswer {
     pub number: u32,
     pub count: u32,
@@ -34,30 +34,45 @@ pub fn table_answer(judged: Result<Table, Refusal>) -> TableAnswer
     ensures { result ≡ table_answer judged }
 {
     match judged {
-        Ok(table) => TableAnswer {
-            count: table.count,
-            degree: table.degree,
-            start: table.start.0,
-            length: table.length,
-            ..TableAnswer::default()
-        },
+        Ok(table) => {
+            let start = table.start;
+            TableAnswer {
+                number: 0,
+                count: table.count,
+                degree: table.degree,
+                place: 0,
+                start: start.0,
+                length: table.length,
+            }
+        }
         Err(refusal) => TableAnswer {
             number: refusal.number,
+            count: 0,
+            degree: 0,
             place: refusal.place,
-            ..TableAnswer::default()
+            start: 0,
+            length: 0,
         },
     }
 }
 
 // A refusal.
+pub fn refused(number: u32, place: u64) -> Answer
+    ensures { result ≡ refused_answer number place }
+{
+    Answer {
+        number,
+        steps: 0,
+        place,
+        index: 0,
+        tick: 0,
+    }
+}
+
 pub fn refused_by(refusal: Refusal) -> Answer
     ensures { result ≡ refused_answer refusal.number refusal.place }
 {
-    Answer {
-        number: refusal.number,
-        place: refusal.place,
-        ..Answer::default()
-    }
+    refused(refusal.number, refusal.place)
 }
 
 // A conversion: its tick and steps, or the refusal.
@@ -66,9 +81,11 @@ pub fn converted_answer(answer: Result<Converted, Refusal>) -> Answer
 {
     match answer {
         Ok(converted) => Answer {
+            number: 0,
             steps: converted.steps,
+            place: 0,
+            index: 0,
             tick: converted.epoch.tick,
-            ..Answer::default()
         },
         Err(refusal) => refused_by(refusal),
     }
@@ -79,7 +96,13 @@ pub fn done_answer(judged: Result<Table, Refusal>) -> Answer
     ensures { result ≡ done_answer judged }
 {
     match judged {
-        Ok(_) => Answer::default(),
+        Ok(_) => Answer {
+            number: 0,
+            steps: 0,
+            place: 0,
+            index: 0,
+            tick: 0,
+        },
         Err(refusal) => refused_by(refusal),
     }
 }
