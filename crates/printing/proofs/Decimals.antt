@@ -11,7 +11,7 @@ use lib.ListN.{length, length-append}
 use Rattle.line.specs.Numbers.{is_digit, all_digits, value_from, value_of}
 use Rattle.printing.specs.Texts.{decimal, decimal_within}
 use Rattle.numbers.proofs.Flags.{both}
-use Rattle.line.proofs.Runs.{is_digit_lem}
+use Rattle.line.proofs.Digits.{is_digit_lem}
 
 -- ---- how many digits are allowed does not matter, once they are enough
 enough : (most least n : ℕ) → n < most → n < least → decimal_within most n ≡ decimal_within least n
