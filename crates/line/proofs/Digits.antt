@@ -20,14 +20,6 @@ pub is_digit_lem : (byte : ℕ) → 48 ≤ byte → byte ≤ 57 → is_digit byt
 unfolding is_digit
 is_digit_lem byte l h = rw (le-leb 48 byte l, le-leb byte 57 h)
 
-pub below_digits : (byte : ℕ) → byte < 48 → is_digit byte ≡ false
-unfolding is_digit
-below_digits byte h = rw (lt-leb 48 byte h)
-
-pub above_digits : (byte : ℕ) → 57 < byte → is_digit byte ≡ false
-unfolding is_digit
-above_digits byte h = rw (le-leb 48 byte (omega arith), lt-leb byte 57 h)
-
 pub digit_bounds : (byte : ℕ) → is_digit byte ≡ true → (48 ≤ byte) × (byte ≤ 57)
 unfolding is_digit
 digit_bounds byte e = let b = both (leb 48 byte) (leb byte 57) e in (leb-true 48 byte b.0, leb-true byte 57 b.1)
@@ -71,7 +63,7 @@ unfolding all_digits value_from
 sized_all s = ((s.digits_left, omega (arith, s.value, s.small)), sym s.value)
 
 -- ---- which digits are no number's
-pub none_spoilt : (negative : Bool) (text : List ℕ) → all_digits text ≡ false → digits_number negative text ≡ none
+none_spoilt : (negative : Bool) (text : List ℕ) → all_digits text ≡ false → digits_number negative text ≡ none
 unfolding digits_number
 none_spoilt negative text e = simp (e, and-false)
 

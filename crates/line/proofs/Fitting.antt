@@ -5,11 +5,10 @@ use mathlib.Core.Bool.{Bool, true, false}
 use mathlib.Core.Option.{some, none}
 use Prim.Native.Nat.{ℕ, zero, suc, ◌-◌, ◌^◌, ◌≤◌, ◌<◌}
 use native.Mathlib.Omega.{arith}
-use lib.IntN.{pos, negsuc}
-use lib.IntN.{ℤ, ◌-ℤ◌}
+use native.Mathlib.Decide.{dec_lt}
+use lib.IntN.{ℤ, pos, negsuc, ◌-ℤ◌}
 use mir.Syntax.{w64}
 use mir.Val.{SFits}
-use native.Mathlib.Decide.{dec_lt}
 use Rattle.std.specs.Prelude as code
 use Rattle.std.specs.Prelude.{Some, None, Ok, Err}
 use Rattle.std.specs.Option.{SomeIff}
@@ -22,7 +21,7 @@ pub positive_fits : (n : ℕ) → n < 2 ^ 63 → fitting (signed false n) ≡ so
 unfolding fitting fits_signed
 positive_fits n h = rw (lt-ltb n (2 ^ 63) h)
 
-pub positive_far : (n : ℕ) → 2 ^ 63 ≤ n → fitting (signed false n) ≡ none
+positive_far : (n : ℕ) → 2 ^ 63 ≤ n → fitting (signed false n) ≡ none
 unfolding fitting fits_signed
 positive_far n h = rw (le-ltb n (2 ^ 63) h)
 
@@ -30,11 +29,11 @@ pub negative_fits : (n : ℕ) → n < 2 ^ 63 → fitting (signed true (suc n)) �
 unfolding fitting fits_signed
 negative_fits n h = rw (le-leb n 9223372036854775807 (omega arith))
 
-pub negative_zero : fitting (signed true 0) ≡ some (pos 0)
+negative_zero : fitting (signed true 0) ≡ some (pos 0)
 unfolding fitting fits_signed
 negative_zero = refl
 
-pub negative_far : (n : ℕ) → 2 ^ 63 < n → fitting (signed true n) ≡ none
+negative_far : (n : ℕ) → 2 ^ 63 < n → fitting (signed true n) ≡ none
 unfolding fitting fits_signed
 negative_far zero h = let z : ⊥ = omega arith in absurd z
 negative_far (suc n) h = rw (lt-leb n 9223372036854775807 (omega arith))
