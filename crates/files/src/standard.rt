@@ -1,7 +1,7 @@
 // Standard input and standard output. What fails is told on standard error.
 ghost use Rattle.std.specs.Prelude.{◌≤◌, length};
 
-use crate::descriptors::{Came, read_some, write_whole};
+use crate::descriptors::{Unwritten, read_some, write_whole};
 use crate::telling::tell;
 use std::io;
 use std::io::ErrorKind;
@@ -10,14 +10,10 @@ use std::io::ErrorKind;
 pub fn read_input(rt: &(impl Input + Eprint), buffer: &mut [u8]) -> usize
     ensures { result ≤ length buffer.new }
 {
-    match read_some(&mut rt.reader(), buffer) {
-        Came::Bytes(more) => more,
-        Came::Nothing => 0,
-        Came::Failed(error) => {
-            tell(rt, "standard input", error);
-            0
-        }
-    }
+    read_some(&mut rt.reader(), buffer).unwrap_or_else(|error| {
+        tell(rt, "standard input", error);
+        0
+    })
 }
 
 // Writes a text, and answers how much of it: all, unless a call failed. An output that was closed
@@ -25,11 +21,13 @@ pub fn read_input(rt: &(impl Input + Eprint), buffer: &mut [u8]) -> usize
 pub fn print(rt: &(impl Print + Eprint), text: &[u8]) -> usize
     ensures { result ≤ length text.now }
 {
-    let written = write_whole(&mut io::writer(rt), text);
-    if let Some(error) = written.failed {
-        if error.kind() != ErrorKind::BrokenPipe {
-            tell(rt, "standard output", error);
+    match write_whole(&mut io::writer(rt), text) {
+        Ok(()) => text.len(),
+        Err(Unwritten { done, error }) => {
+            if error.kind() != ErrorKind::BrokenPipe {
+                tell(rt, "standard output", error);
+            }
+            done
         }
     }
-    written.done
 }

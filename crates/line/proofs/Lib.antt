@@ -1,9 +1,9 @@
 -- The laws of lines. `Codes`: which numbers of a line are codes. `PageLines`: the page's lines,
 -- and those at the edges of its rule.
--- For the code: `Cases`, `Runs` (the digits at the front of a text), `Fitting` (signed 64 bits),
+-- For the code: `Cases`, `Digits` (what they say so far), `Fitting` (signed 64 bits),
 -- `Splitting` (a line's fields, one at a time).
 pub mod Cases
-pub mod Runs
+pub mod Digits
 pub mod Fitting
 pub mod Splitting
 pub mod Codes

@@ -1,17 +1,9 @@
 // A number's text at a place of a line: 'optional minus on each, 1 to 20 digits, each fitting
-// signed 64 bits'. One pass over the bytes.
-ghost use Rattle.std.specs.Prelude.{◌≡◌, true, false, ◌≤◌, ◌<◌, ◌+◌, ◌*◌, length, drop};
-ghost use Rattle.numbers.specs.Signs.{signed};
-ghost use Rattle.line.specs.Numbers.{fitting};
-ghost use Rattle.line.specs.Scan.{capped, run_from, found_at, digits_at, number_scanned, minus_at};
-
-// The digits at the front of a text: their value, where anything above 2^63 counts as 2^63 + 1, and
-// where they end.
-#[derive(Clone, Copy)]
-pub struct Run {
-    pub value: u64,
-    pub end: usize,
-}
+// signed 64 bits'.
+ghost use Rattle.std.specs.Prelude.{◌≡◌, true, ◌≤◌, ◌<◌, ◌^◌, ◌==◌, length, position};
+ghost use Rattle.std.specs.Option.{SomeIff};
+ghost use Rattle.line.specs.Numbers.{all_digits, value_of, digits_number, number_in};
+ghost use Rattle.line.specs.Scan.{field, told, number_scanned};
 
 // A number and where its text ends, or that there is none.
 #[derive(Clone, Copy)]
@@ -20,95 +12,57 @@ pub enum Scanned {
     Wrong,
 }
 
-fn wide(byte: u8) -> u64
-    ensures { (result ≡ byte) × (result < 256) }
+// Where the first space of a text is.
+fn space_in(text: &[u8]) -> Option<usize>
+    ensures { result ≡ position (λ b. b == 32) text.now }
 {
-    byte as u64
+    text.iter().position(|byte| *byte == b' ')
 }
 
-// The value with one more digit. What is above 2^63 fits no more, with either sign, and stays so:
-// 2^63 + 1 stands for all of it.
-fn grown(value: u64, digit: u64) -> u64
-    requires { digit ≤ 9 }
-    ensures { result ≡ capped (10 * value + digit) }
+// The field at the front of a text: the bytes before the first space.
+fn field(text: &[u8]) -> &[u8]
+    ensures { result.now ≡ field text.now }
 {
-    if value > 922_337_203_685_477_580 {
-        9_223_372_036_854_775_809
-    } else {
-        10 * value + digit
-    }
+    &text[..space_in(text).unwrap_or(text.len())]
 }
 
-// The digits from `at` on. The callers' place lies in the text or at its end.
-fn digits_from(text: &[u8], at: usize) -> Run
-    requires { at ≤ length text.now }
-    ensures { result ≡ run_from (drop at text.now) at }
+// The size that digits say, if they are digits and it is below 2^64.
+fn size_in(digits: &[u8]) -> Option<u64>
+    ensures { SomeIff result ((all_digits digits.now ≡ true) × (value_of digits.now < 2 ^ 64))
+        (value_of digits.now) }
 {
-    let mut value: u64 = 0;
-    let mut end = at;
-    while end < text.len() {
-        let byte = wide(text[end]);
-        if byte < 48 {
-            return Run { value, end };
+    let mut size: u64 = 0;
+    for digit in digits {
+        if !digit.is_ascii_digit() {
+            return None;
         }
-        if byte > 57 {
-            return Run { value, end };
-        }
-        value = grown(value, byte - 48);
-        end += 1;
+        size = size.checked_mul(10)?.checked_add(u64::from(digit - b'0'))?;
     }
-    Run { value, end }
+    Some(size)
 }
 
-// A number of the given sign and size, if it fits signed 64 bits.
-fn with_sign(negative: bool, size: u64, end: usize) -> Scanned
-    ensures { result ≡ found_at (fitting (signed negative size)) end }
+// The number of a given sign that 1 to 20 digits say, if it fits signed 64 bits.
+fn digits_number(negative: bool, digits: &[u8]) -> Option<i64>
+    ensures { told result ≡ digits_number negative digits.now }
 {
+    if digits.is_empty() || digits.len() > 20 {
+        return None;
+    }
+    let size = size_in(digits)?;
     if negative {
-        if size > 9_223_372_036_854_775_808 {
-            Scanned::Wrong
-        } else if size == 0 {
-            Scanned::Number(0, end)
-        } else {
-            Scanned::Number(-1 - ((size - 1) as i64), end)
-        }
-    } else if size > 9_223_372_036_854_775_807 {
-        Scanned::Wrong
+        0_i64.checked_sub_unsigned(size)
     } else {
-        Scanned::Number(size as i64, end)
+        i64::try_from(size).ok()
     }
 }
 
-// The field from `at` on as digits of a number whose sign is known. The callers' place lies in the
-// text or at its end.
-fn digits_number(text: &[u8], at: usize, negative: bool) -> Scanned
-    requires { at ≤ length text.now }
-    ensures { result ≡ digits_at negative text.now at }
+// The number that a field says.
+fn number_in(field: &[u8]) -> Option<i64>
+    ensures { told result ≡ number_in field.now }
 {
-    let run = digits_from(text, at);
-    let end = run.end;
-    if end == at {
-        return Scanned::Wrong;
-    }
-    if end - at > 20 {
-        return Scanned::Wrong;
-    }
-    if end < text.len() {
-        if text[end] != b' ' {
-            return Scanned::Wrong;
-        }
-    }
-    with_sign(negative, run.value, end)
-}
-
-// Whether there is a minus at a place.
-fn minus_at(text: &[u8], at: usize) -> bool
-    ensures { result ≡ minus_at text.now at }
-{
-    if at < text.len() {
-        text[at] == b'-'
-    } else {
-        false
+    match field.strip_prefix(b"-") {
+        Some(digits) => digits_number(true, digits),
+        None => digits_number(false, field),
     }
 }
 
@@ -118,9 +72,9 @@ pub fn number_from(text: &[u8], at: usize) -> Scanned
     requires { at ≤ length text.now }
     ensures { result ≡ number_scanned text.now at }
 {
-    if minus_at(text, at) {
-        digits_number(text, at + 1, true)
-    } else {
-        digits_number(text, at, false)
+    let field = field(&text[at..]);
+    match number_in(field) {
+        Some(number) => Scanned::Number(number, at + field.len()),
+        None => Scanned::Wrong,
     }
 }

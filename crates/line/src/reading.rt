@@ -55,11 +55,5 @@ const NO_CODE: u32 = 4_294_967_295;
 pub fn code_of(number: i64) -> u32
     ensures { result ≡ code_of number }
 {
-    if number < 0 {
-        NO_CODE
-    } else if number > 4_294_967_294 {
-        NO_CODE
-    } else {
-        number as u32
-    }
+    u32::try_from(number).unwrap_or(NO_CODE)
 }

@@ -11,7 +11,7 @@ use lib.ListN.{length, length-append}
 use Rattle.line.specs.Numbers.{is_digit, all_digits, value_from, value_of}
 use Rattle.printing.specs.Texts.{decimal, decimal_within}
 use Rattle.numbers.proofs.Flags.{both}
-use Rattle.line.proofs.Runs.{is_digit_lem}
+use Rattle.line.proofs.Digits.{is_digit_lem}
 
 -- ---- how many digits are allowed does not matter, once they are enough
 enough : (most least n : ℕ) → n < most → n < least → decimal_within most n ≡ decimal_within least n
@@ -55,10 +55,10 @@ module _ (P : ℕ → Type 0) (one : (n : ℕ) → n < 10 → P n) (more : (n : 
   by_digits n = up_to (suc n) n (omega arith)
 
 -- ---- length
-pub length_one : (n : ℕ) → n < 10 → length (decimal n) ≡ 1
+length_one : (n : ℕ) → n < 10 → length (decimal n) ≡ 1
 length_one n h = rw (decimal_one n h)
 
-pub length_more : (n : ℕ) → 10 ≤ n → length (decimal n) ≡ length (decimal (n / 10)) + 1
+length_more : (n : ℕ) → 10 ≤ n → length (decimal n) ≡ length (decimal (n / 10)) + 1
 length_more n h = rw (decimal_more n h) (length-append (decimal (n / 10)) ((48 + n % 10) ∷ []))
 
 pub some_length : (n : ℕ) → 1 ≤ length (decimal n)

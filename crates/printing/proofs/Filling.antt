@@ -1,13 +1,12 @@
 -- Texts put into a buffer one after the other. Assumes nothing.
 use mathlib.Core.Path.{◌≡◌, refl, sym, ◌∙◌, ap}
 use mathlib.Core.List.{List, [], ◌∷◌, ◌++◌, append_assoc}
-use Prim.Native.Nat.{ℕ, suc, ◌+◌, ◌≤◌, ◌<◌}
+use Prim.Native.Nat.{ℕ, ◌+◌, ◌≤◌, ◌<◌}
 use native.Mathlib.Omega.{arith}
 use native.Mathlib.Numerals.{add-one}
-use lib.ListN.{length, take, drop, set, length-append, length-take, length-drop, length-set}
-use lib.Seq.{length-take-le, take_at, drop-drop, drop-append-add, set_split, take-set-le}
-use lib.Seq.{drop-set-lt, drop-cons, get_or-set_same, append_snoc}
-use Rattle.printing.specs.Buffers.{Room, with_text, TextPut}
+use lib.ListN.{length, take, drop, set, length-append, length-take, length-drop}
+use lib.Seq.{length-take-le, take_at, drop-drop, drop-append-add, set_split, append_snoc}
+use Rattle.printing.specs.Buffers.{with_text, TextPut}
 
 -- a buffer keeps its length
 length_with : (out : List ℕ) (at : ℕ) (text : List ℕ) → at + length text ≤ length out
@@ -16,24 +15,10 @@ unfolding with_text
 length_with out at text h = simp (length-append, length-take, length-drop) (omega arith)
 
 -- one byte
-pub with_byte : (out : List ℕ) (at byte : ℕ) → at < length out → set out at byte ≡ with_text out at (byte ∷ [])
+with_byte : (out : List ℕ) (at byte : ℕ) → at < length out → set out at byte ≡ with_text out at (byte ∷ [])
 unfolding with_text
 with_byte out at byte h =
     set_split out at byte h ∙ sym (append_snoc (take at out) byte (drop (at + 1) out) ∙ ap (λ (n : ℕ). take at out ++ byte ∷ drop n out) (add-one at))
-
--- a byte after the text's place, and then the text
-pub with_last : (out : List ℕ) (at : ℕ) (text : List ℕ) (byte : ℕ) → at + length text < length out
-    → with_text (set out (at + length text) byte) at text ≡ with_text out at (text ++ (byte ∷ []))
-unfolding with_text
-with_last out at text byte h =
-    let n = at + length text in
-    let e : at + length (text ++ (byte ∷ [])) ≡ suc n = omega (arith, length-append text (byte ∷ [])) in
-    let d : drop n (set out n byte) ≡ byte ∷ drop (suc n) out =
-    drop-cons (set out n byte) n 0 (simp length-set h) ∙ rw (get_or-set_same out n byte 0 h, drop-set-lt (suc n) out n byte (omega arith)) in
-    rw (take-set-le at out n byte (omega arith), d, e)
-    (sym
-    (ap (λ (l : List ℕ). l ++ drop (suc n) out) (sym (append_assoc (take at out) text (byte ∷ [])))
-    ∙ append_snoc (take at out ++ text) byte (drop (suc n) out)))
 
 -- one text after another
 module _ (out : List ℕ) (at : ℕ) (first second : List ℕ) (room : at + length (first ++ second) ≤ length out) where
@@ -88,6 +73,3 @@ module _ {out : List ℕ} {at : ℕ} {text left : List ℕ} {next : ℕ} (put : 
   pub then_byte : (byte : ℕ) → at + length text < length out
       → TextPut out at (text ++ (byte ∷ [])) (set left next byte) (next + 1)
   then_byte byte h = then_text (put_byte left next byte (place_inside h)) (omega arith)
-
-  pub then_room : {more : List ℕ} → at + length text + length more ≤ length out → Room left next more
-  then_room h = record { room = omega (arith, length_kept (omega arith), put.after) }

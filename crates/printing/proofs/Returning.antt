@@ -17,7 +17,7 @@ use Rattle.line.specs.Numbers.{is_digit, all_digits, fits_signed, fitting, digit
 use Rattle.line.specs.Lines.{fields, line_read}
 use Rattle.printing.specs.Texts.{decimal, integer_text, answer_text}
 use Rattle.numbers.proofs.Flags.{both}
-use Rattle.line.proofs.Runs.{digit_bounds, digit_no_space, some_digits}
+use Rattle.line.proofs.Digits.{digit_bounds, digit_no_space, some_digits}
 use Rattle.line.proofs.Fitting.{positive_fits, negative_fits}
 use Rattle.printing.proofs.Decimals.{all_digits_lem, value_decimal, some_length, few_digits}
 use Rattle.printing.proofs.Lengths.{integer_length}

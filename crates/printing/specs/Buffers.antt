@@ -1,14 +1,10 @@
 -- A text put into a lent buffer at a place.
-use Rattle.std.specs.Prelude.{◌≡◌, List, ◌++◌, ℕ, ◌+◌, ◌≤◌, length, take, drop}
+use Rattle.std.specs.Prelude.{◌≡◌, List, ◌++◌, ℕ, ◌+◌, length, take, drop}
 
 -- the longest printed line: two integers of up to 20 characters, steps of up to 10, two spaces and
 -- a newline
 abbrev pub longest : ℕ
 longest = 53
-
--- room for a text at a place
-pub record Room (out : List ℕ) (at : ℕ) (text : List ℕ) : Type 0 where
-  pub room : at + length text ≤ length out
 
 -- the buffer with the text put: before it and after it as it was
 unfoldable pub with_text : List ℕ → ℕ → List ℕ → List ℕ

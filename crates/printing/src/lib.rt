@@ -2,5 +2,4 @@
 // Nothing here knows of files: a line goes into a lent buffer at a place.
 #![tactic(auto)]
 
-mod decimal;
 pub mod writing;

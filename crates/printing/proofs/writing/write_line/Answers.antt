@@ -1,20 +1,25 @@
 -- `printing::writing::write_line` meets its contract. Assumes nothing.
+use Rattle.std.proofs.Common.{◌≡◌, rules}
 use mir.Syntax.{w64}
 use mir.ValLaws.{to_z-of_z}
-use borrow.Author.Rules.{rules}
+use Rattle.printing.specs.Texts.{answer_line}
 use Rattle.printing.proofs.Lengths.{answer_longest, refused_longest}
 use Rattle.printing.proofs.writing.write_line.Goals as goal
 
 pub returns-in-Ok : goal.returns-in-Ok
 returns-in-Ok c =
-    rw (
-      c.in-Ok.is,
-      ← to_z-of_z w64 c.args.to c.ranges.to,
-      ← to_z-of_z w64 c.in-Ok.converted.epoch.tick (search rules),
-    ) (record {
-      text = c.write_answer.ensures;
+    let line : c.answer_line.result.bytes ≡ answer_line c.args.to c.in-Ok.converted.epoch.tick c.in-Ok.converted.steps =
+    rw (to_z-of_z w64 c.args.to c.ranges.to, to_z-of_z w64 c.in-Ok.converted.epoch.tick (search rules)) at c.answer_line.ensures in
+    rw c.in-Ok.is
+    (record {
+      text = rw (← line, ← c.deref.ensures.0) c.put_text.ensures;
       short = answer_longest _ _ _ (record { sfits = search rules }) (record { sfits = search rules }) (search rules);
     })
 
 pub returns-in-Err : goal.returns-in-Err
-returns-in-Err c = rw c.in-Err.is (record { text = c.write_refused.ensures; short = refused_longest _ (search rules) })
+returns-in-Err c =
+    rw c.in-Err.is
+    (record {
+      text = rw (← c.refused_line.ensures, ← c.deref-in-Err.ensures.0) c.put_text-in-Err.ensures;
+      short = refused_longest _ (search rules);
+    })
