@@ -13,8 +13,10 @@ use lib.ListN.{length, drop, length-drop}
 use lib.Seq.{drop-drop}
 use Rattle.line.specs.Numbers.{number_in}
 use Rattle.line.specs.Lines.{fields, three_numbers, not_understood, line_read}
-use Rattle.line.specs.Scan.{field, found_at, number_scanned}
-use Rattle.line.specs.declared.number.Scanned.TheVariants.{Number, Wrong}
+use Rattle.line.specs.Scan.{field, found_at, found_number, number_scanned}
+use Rattle.line.specs.declared.number.Found.{Found}
+use Rattle.std.specs.Prelude as code
+use Rattle.std.specs.Prelude.{None, Some}
 use Rattle.line.proofs.Cases.{either}
 
 -- the fields after the first
@@ -67,11 +69,19 @@ module _ (text : List ℕ) (at : ℕ) where
   numbers_first : numbers_from ≡ number_in (field (drop at text)) ∷ map number_in (fields_after (drop at text))
   numbers_first = ap (map number_in) (first_field (drop at text))
 
-found_some : (o : Option ℤ) (end e : ℕ) (z : ℤ) → found_at o end ≡ Number z e → (o ≡ some z) × (end ≡ e)
-found_some (some y) end e z h = (ap some (cc), cc)
+abbrev found_of : ℤ → code.Option Found → ℤ
+found_of else (Some f) = f.number
+found_of else None = else
+
+abbrev end_of : ℕ → code.Option Found → ℕ
+end_of else (Some f) = f.end
+end_of else None = else
+
+found_some : (o : Option ℤ) (end e : ℕ) (z : ℤ) → found_at o end ≡ found_number z e → (o ≡ some z) × (end ≡ e)
+found_some (some y) end e z h = (ap some (ap (found_of y) h), ap (end_of end) h)
 found_some none end e z h = let n : ◌≡◌ {A = ℕ} 0 1 = cc in let f : ⊥ = omega arith in absurd f
 
-found_none : (o : Option ℤ) (end : ℕ) → found_at o end ≡ Wrong → o ≡ none
+found_none : (o : Option ℤ) (end : ℕ) → found_at o end ≡ None → o ≡ none
 found_none (some y) end h = let n : ◌≡◌ {A = ℕ} 0 1 = cc in let f : ⊥ = omega arith in absurd f
 found_none none end h = refl
 
@@ -81,13 +91,13 @@ pub one_more : (text : List ℕ) (at : ℕ) (from to tick : ℤ) (line : ℕ)
 one_more text at from to tick line = rw (numbers_first text at)
 
 -- no number here
-pub wrong_at : (text : List ℕ) (at : ℕ) → number_scanned text at ≡ Wrong
+pub wrong_at : (text : List ℕ) (at : ℕ) → number_scanned text at ≡ None
     → numbers_from text at ≡ none ∷ map number_in (fields_after (drop at text))
 unfolding number_scanned
 wrong_at text at e = numbers_first text at ∙ ap (λ (o : Option ℤ). o ∷ map number_in (fields_after (drop at text))) (found_none _ _ e)
 
 module _ (text : List ℕ) (at : ℕ) (inside : at ≤ length text) (z : ℤ) (end : ℕ)
-    (found : number_scanned text at ≡ Number z end) where
+    (found : number_scanned text at ≡ found_number z end) where
   both : (number_in (field (drop at text)) ≡ some z) × (end_at text at ≡ end)
   unfolding number_scanned
   both = found_some _ _ end z found

@@ -3,8 +3,7 @@ use Rattle.std.specs.Prelude.{cond, List, [], ◌∷◌, ℕ, ◌+◌, eqb, ℤ,
 use Rattle.std.specs.Prelude as code
 use Rattle.std.proofs.Math.Option.{Option, some, none}
 use Rattle.line.specs.Numbers.{number_in}
-use Rattle.line.specs.declared.number.Scanned.{Scanned}
-use Rattle.line.specs.declared.number.Scanned.TheVariants.{Number, Wrong}
+use Rattle.line.specs.declared.number.Found.{Found}
 
 -- the field at the front of a text: the bytes before the first space
 unfoldable pub field : List ℕ → List ℕ
@@ -17,11 +16,14 @@ told (Some z) = some z
 told None = none
 
 -- a number and where it ends
-abbrev pub found_at : Option ℤ → ℕ → Scanned
-found_at (some z) end = Number z end
-found_at none end = Wrong
+abbrev pub found_number : ℤ → ℕ → code.Option Found
+found_number number end = Some (record { number = number; end = end })
+
+abbrev pub found_at : Option ℤ → ℕ → code.Option Found
+found_at (some z) end = found_number z end
+found_at none end = None
 
 -- the number that the field at a place says
-unfoldable pub number_scanned : List ℕ → ℕ → Scanned
+unfoldable pub number_scanned : List ℕ → ℕ → code.Option Found
 number_scanned text at =
     found_at (number_in (field (drop at text))) (at + length (field (drop at text)))

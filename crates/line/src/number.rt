@@ -5,11 +5,11 @@ ghost use Rattle.std.specs.Option.{SomeIff};
 ghost use Rattle.line.specs.Numbers.{all_digits, value_of, digits_number, number_in};
 ghost use Rattle.line.specs.Scan.{field, told, number_scanned};
 
-// A number and where its text ends, or that there is none.
-#[derive(Clone, Copy)]
-pub enum Scanned {
-    Number(i64, usize),
-    Wrong,
+// A number and where its text ends.
+#[derive(Clone, Copy, Debug, PartialEq, Eq)]
+pub struct Found {
+    pub number: i64,
+    pub end: usize,
 }
 
 // Where the first space of a text is.
@@ -68,13 +68,14 @@ fn number_in(field: &[u8]) -> Option<i64>
 
 // The number whose field begins at `at`, and where the field ends. The callers' place lies in the
 // text or at its end.
-pub fn number_from(text: &[u8], at: usize) -> Scanned
+pub fn number_from(text: &[u8], at: usize) -> Option<Found>
     requires { at ≤ length text.now }
     ensures { result ≡ number_scanned text.now at }
 {
     let field = field(&text[at..]);
-    match number_in(field) {
-        Some(number) => Scanned::Number(number, at + field.len()),
-        None => Scanned::Wrong,
-    }
+    let number = number_in(field)?;
+    Some(Found {
+        number,
+        end: at + field.len(),
+    })
 }

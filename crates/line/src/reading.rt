@@ -3,7 +3,7 @@
 ghost use Rattle.std.specs.Prelude.{◌≡◌};
 ghost use Rattle.line.specs.Lines.{line_read, code_of};
 
-use crate::number::{Scanned, number_from};
+use crate::number::number_from;
 use scales::refusal::Refusal;
 
 // The numbers of a line.
@@ -26,25 +26,29 @@ pub fn read_line(text: &[u8], line: u64) -> Result<Numbers, Refusal>
     if text.len() > 64 {
         return refused;
     }
-    let Scanned::Number(from, first) = number_from(text, 0) else {
+    let Some(first) = number_from(text, 0) else {
         return refused;
     };
-    if first >= text.len() {
+    if first.end >= text.len() {
         return refused;
     }
-    let Scanned::Number(to, second) = number_from(text, first + 1) else {
+    let Some(second) = number_from(text, first.end + 1) else {
         return refused;
     };
-    if second >= text.len() {
+    if second.end >= text.len() {
         return refused;
     }
-    let Scanned::Number(tick, third) = number_from(text, second + 1) else {
+    let Some(third) = number_from(text, second.end + 1) else {
         return refused;
     };
-    if third < text.len() {
+    if third.end < text.len() {
         return refused;
     }
-    Ok(Numbers { from, to, tick })
+    Ok(Numbers {
+        from: first.number,
+        to: second.number,
+        tick: third.number,
+    })
 }
 
 // The greatest unsigned number of 32 bits, which can never be a code.

@@ -58,7 +58,11 @@ pub fn write_line(out: &mut [u8], at: usize, to: i64, answer: Result<Converted, 
 {
     match answer {
         Ok(converted) => {
-            put_text(out, at, &answer_line(to, converted.epoch.tick, converted.steps))
+            put_text(
+                out,
+                at,
+                &answer_line(to, converted.epoch.tick, converted.steps),
+            )
         }
         Err(refusal) => put_text(out, at, &refused_line(refusal.number)),
     }

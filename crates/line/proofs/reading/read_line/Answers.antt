@@ -11,35 +11,35 @@ use lib.ListN.{length}
 use mir.Syntax.{w64}
 use mir.ValLaws.{to_z-of_z}
 use Rattle.line.specs.Lines.{three_numbers, not_understood, line_read}
-use Rattle.line.specs.Scan.{number_scanned}
-use Rattle.line.specs.declared.number.Scanned.TheVariants.{Number, Wrong}
+use Rattle.line.specs.Scan.{found_number, number_scanned}
+use Rattle.std.specs.Prelude.{None}
 use Rattle.line.proofs.Splitting.{numbers_from, one_more, wrong_at, number_more, number_last}
 use Rattle.line.proofs.Splitting.{short_line, long_line}
 use borrow.Author.Rules.{rules}
 use Rattle.line.proofs.reading.read_line.Goals as goal
-use Rattle.line.proofs.reading.read_line.Goals.{In-Number, In-Number-number_from}
-use Rattle.line.proofs.reading.read_line.Goals.{In-Number-number_from-2, Start}
+use Rattle.line.proofs.reading.read_line.Goals.{In-Some, In-Some-number_from}
+use Rattle.line.proofs.reading.read_line.Goals.{In-Some-number_from-2, Start}
 
 -- what is known once one, two and three numbers are found
 record First (text : List ℕ) : Type 0 where
   short : length text ≤ 64
   from : ℤ
   end : ℕ
-  found : number_scanned text 0 ≡ Number from end
+  found : number_scanned text 0 ≡ found_number from end
 
 record Second (text : List ℕ) : Type 0 where
   one : First text
   more : one.end < length text
   to : ℤ
   end : ℕ
-  found : number_scanned text (one.end + 1) ≡ Number to end
+  found : number_scanned text (one.end + 1) ≡ found_number to end
 
 record Third (text : List ℕ) : Type 0 where
   two : Second text
   more : two.end < length text
   tick : ℤ
   end : ℕ
-  found : number_scanned text (two.end + 1) ≡ Number tick end
+  found : number_scanned text (two.end + 1) ≡ found_number tick end
 
 module _ (text : List ℕ) (line : ℕ) where
   -- the line's numbers, as far as they are known
@@ -47,7 +47,7 @@ module _ (text : List ℕ) (line : ℕ) where
       → line_read text line ≡ three_numbers numbers line
   line_is short numbers e = short_line text line short ∙ ap (λ (l : List (Option ℤ)). three_numbers l line) e
 
-  no_first : length text ≤ 64 → number_scanned text 0 ≡ Wrong → line_read text line ≡ not_understood line
+  no_first : length text ≤ 64 → number_scanned text 0 ≡ None → line_read text line ≡ not_understood line
   no_first short w = line_is short _ (wrong_at text 0 w)
 
   module _ (one : First text) where
@@ -58,7 +58,7 @@ module _ (text : List ℕ) (line : ℕ) where
         → numbers_from text 0 ≡ some one.from ∷ rest
     after_first h rest e = number_more text 0 zero-le one.from one.end one.found h ∙ ap (λ (l : List (Option ℤ)). some one.from ∷ l) e
 
-    no_second : one.end < length text → number_scanned text (one.end + 1) ≡ Wrong
+    no_second : one.end < length text → number_scanned text (one.end + 1) ≡ None
         → line_read text line ≡ not_understood line
     no_second h w = line_is one.short _ (after_first h _ (wrong_at text (one.end + 1) w))
 
@@ -76,7 +76,7 @@ module _ (text : List ℕ) (line : ℕ) where
         after_first two.one two.more _
         (number_more text (two.one.end + 1) inside two.to two.end two.found h ∙ ap (λ (l : List (Option ℤ)). some two.to ∷ l) e)
 
-    no_third : two.end < length text → number_scanned text (two.end + 1) ≡ Wrong
+    no_third : two.end < length text → number_scanned text (two.end + 1) ≡ None
         → line_read text line ≡ not_understood line
     no_third h w = line_is two.one.short _ (after_second h _ (wrong_at text (two.end + 1) w))
 
@@ -96,30 +96,30 @@ module _ (text : List ℕ) (line : ℕ) where
         ∙ one_more text (all.end + 1) all.two.one.from all.two.to all.tick line
 
 -- the same at the code's places
-abbrev first : (c : In-Number) → First c.args.text.now
+abbrev first : (c : In-Some) → First c.args.text.now
 first c = record {
   short = omega arith;
-  from = c.in-Number.from;
-  end = c.in-Number.first;
-  found = sym c.number_from.ensures ∙ c.in-Number.is;
+  from = c.in-Some.first.number;
+  end = c.in-Some.first.end;
+  found = sym c.number_from.ensures ∙ c.in-Some.is;
 }
 
-abbrev second : (c : In-Number-number_from) → Second c.args.text.now
+abbrev second : (c : In-Some-number_from) → Second c.args.text.now
 second c = record {
-  one = first (goal.at.In-Number-number_from c).In-Number;
+  one = first (goal.at.In-Some-number_from c).In-Some;
   more = c.if-first-text.false;
-  to = c.in-Number-number_from.to;
-  end = c.in-Number-number_from.second;
-  found = sym c.number_from-2.ensures ∙ c.in-Number-number_from.is;
+  to = c.in-Some-number_from.second.number;
+  end = c.in-Some-number_from.second.end;
+  found = sym c.number_from-2.ensures ∙ c.in-Some-number_from.is;
 }
 
-abbrev third : (c : In-Number-number_from-2) → Third c.args.text.now
+abbrev third : (c : In-Some-number_from-2) → Third c.args.text.now
 third c = record {
-  two = second (goal.at.In-Number-number_from-2 c).In-Number-number_from;
+  two = second (goal.at.In-Some-number_from-2 c).In-Some-number_from;
   more = c.if-second-text.false;
-  tick = c.in-Number-number_from-2.tick;
-  end = c.in-Number-number_from-2.third;
-  found = sym c.number_from-3.ensures ∙ c.in-Number-number_from-2.is;
+  tick = c.in-Some-number_from-2.third.number;
+  end = c.in-Some-number_from-2.third.end;
+  found = sym c.number_from-3.ensures ∙ c.in-Some-number_from-2.is;
 }
 
 pub returns-then-text-gt64 : goal.returns-then-text-gt64
@@ -129,28 +129,28 @@ pub returns-in_default : goal.returns-in_default
 returns-in_default c = sym (no_first _ _ (omega arith) (sym c.number_from.ensures ∙ c.in_default.is))
 
 pub returns-then-first-text : goal.returns-then-first-text
-returns-then-first-text c = sym (one_only _ _ (first (goal.at.returns-then-first-text c).In-Number) c.if-first-text.true)
+returns-then-first-text c = sym (one_only _ _ (first (goal.at.returns-then-first-text c).In-Some) c.if-first-text.true)
 
 pub returns-in_default-number_from : goal.returns-in_default-number_from
 returns-in_default-number_from c =
-    sym (no_second _ _ (first (goal.at.returns-in_default-number_from c).In-Number) c.if-first-text.false (sym c.number_from-2.ensures
+    sym (no_second _ _ (first (goal.at.returns-in_default-number_from c).In-Some) c.if-first-text.false (sym c.number_from-2.ensures
     ∙ c.in_default-number_from.is))
 
 pub returns-then-second-text : goal.returns-then-second-text
-returns-then-second-text c = sym (two_only _ _ (second (goal.at.returns-then-second-text c).In-Number-number_from) c.if-second-text.true)
+returns-then-second-text c = sym (two_only _ _ (second (goal.at.returns-then-second-text c).In-Some-number_from) c.if-second-text.true)
 
 pub returns-in_default-number_from-2 : goal.returns-in_default-number_from-2
 returns-in_default-number_from-2 c =
-    sym (no_third _ _ (second (goal.at.returns-in_default-number_from-2 c).In-Number-number_from) c.if-second-text.false (sym c.number_from-3.ensures
+    sym (no_third _ _ (second (goal.at.returns-in_default-number_from-2 c).In-Some-number_from) c.if-second-text.false (sym c.number_from-3.ensures
     ∙ c.in_default-number_from-2.is))
 
 pub returns-then-third-text : goal.returns-then-third-text
-returns-then-third-text c = sym (too_many _ _ (third (goal.at.returns-then-third-text c).In-Number-number_from-2) c.if-third-text.true)
+returns-then-third-text c = sym (too_many _ _ (third (goal.at.returns-then-third-text c).In-Some-number_from-2) c.if-third-text.true)
 
 pub returns : goal.returns
 returns c =
     rw (
-      to_z-of_z w64 c.in-Number.from (search rules),
-      to_z-of_z w64 c.in-Number-number_from.to (search rules),
-      to_z-of_z w64 c.in-Number-number_from-2.tick (search rules),
-    ) (sym (all_three _ _ (third (goal.at.returns c).In-Number-number_from-2) c.if-third-text.false))
+      to_z-of_z w64 c.in-Some.first.number (search rules),
+      to_z-of_z w64 c.in-Some-number_from.second.number (search rules),
+      to_z-of_z w64 c.in-Some-number_from-2.third.number (search rules),
+    ) (sym (all_three _ _ (third (goal.at.returns c).In-Some-number_from-2) c.if-third-text.false))
