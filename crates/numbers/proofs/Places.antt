@@ -7,9 +7,11 @@ use Prim.Native.Nat.{ℕ, zero, suc, ◌+◌, ◌≤◌, ◌<◌, zero-le}
 use native.Mathlib.Nat.{le_of_suc-le-suc, not-suc-le-zero, eq-or-lt_of_le, le_refl, lt_irrefl}
 use native.Mathlib.Omega.{arith}
 use borrow.Author.Count.{below_more}
+use borrow.Author.Tests.{lt-ltb, le-ltb}
 use lib.ListN.{length, get_or, set, length-map, length-set}
 use lib.Seq.{ext_get_or, get_or-set_same, get_or-set_other}
-use Rattle.numbers.specs.Lowest.{lowest, every, up_to}
+use Rattle.std.specs.Prelude.{None, Some}
+use Rattle.numbers.specs.Lowest.{lowest, found, every, up_to}
 use Rattle.numbers.proofs.Flags.{never, both}
 
 suc_le : {n m : ℕ} → n ≤ m → suc n ≤ suc m
@@ -58,6 +60,17 @@ none_fails p n h = first_is p n n (record { within = le_refl n; before = h; foun
 
 pub all_pass : (p : ℕ → Bool) (n : ℕ) → n ≤ lowest p n → (k : ℕ) → k < n → p k ≡ true
 all_pass p n e k h = (lowest_first p n).before k (omega arith)
+
+-- a search that hands out the place, or none
+pub found_some : (p : ℕ → Bool) (n i : ℕ) → i < n → ((k : ℕ) → k < i → p k ≡ true) → p i ≡ false → Some i ≡ found p n
+unfolding found
+found_some p n i h before here =
+    let e : i ≡ lowest p n = first_is p n i (record { within = omega arith; before = before; found = λ _. here }) in
+    rw (← e, lt-ltb i n h)
+
+pub found_none : (p : ℕ → Bool) (n : ℕ) → ((k : ℕ) → k < n → p k ≡ true) → None ≡ found p n
+unfolding found
+found_none p n all = rw (← none_fails p n all, le-ltb n n (le_refl n))
 
 -- ---- every place
 pub every_is : (p : ℕ → Bool) (n : ℕ) → ((k : ℕ) → k < n → p k ≡ true) → every p n ≡ true

@@ -1,13 +1,13 @@
 -- The sums of the check, a word more, and of bytes that agree. Assumes nothing.
 use mathlib.Core.Path.{◌≡◌, refl, ◌∙◌, ap}
-use mathlib.Core.Bool.{true, false}
+use mathlib.Core.Bool.{◌&&◌}
 use mathlib.Core.List.{List}
 use Prim.Native.Nat.{ℕ, zero, suc, ◌+◌, ◌*◌, ◌-◌, ◌/◌, ◌%◌, ◌≤◌, ◌<◌}
 use native.Mathlib.Numerals.{add-one}
 use native.Mathlib.Omega.{arith}
-use borrow.Author.Tests.{eq-eqb, ne_eqb}
+use lib.Dec.{eqb}
 use lib.ListN.{get_or}
-use Rattle.words.specs.Words.{quad_at, from}
+use Rattle.words.specs.Words.{pair_at, quad_at, from}
 use Rattle.words.specs.Check.{word_of, sum_a, sum_b, check_a, check_b, is_checked}
 
 -- words 2i and 2i + 1, as the code finds them in four bytes
@@ -82,16 +82,12 @@ check_a_same f g e = ap (λ (n : ℕ). n % 65535) (sum_a_same f g 254 508 (omega
 pub check_b_same : (f g : ℕ → ℕ) → ((j : ℕ) → j < 508 → f j ≡ g j) → check_b f ≡ check_b g
 check_b_same f g e = ap (λ (n : ℕ). n % 65535) (sum_b_same f g 254 508 (omega arith) e)
 
--- ---- what two comparisons show
-module _ (f : ℕ → ℕ) (a b x y : ℕ) (ea : a ≡ check_a f) (eb : b ≡ check_b f) (ex : x ≡ f 508 + 256 * f 509) where
-  pub wrong_a : (x ≡ a → ⊥) → false ≡ is_checked f
-  unfolding is_checked
-  wrong_a n = rw (← ex, ← ea, ne_eqb x a n)
-
-  pub wrong_b : x ≡ a → y ≡ f 510 + 256 * f 511 → (y ≡ b → ⊥) → false ≡ is_checked f
-  unfolding is_checked
-  wrong_b e ey n = rw (← ex, ← ea, eq-eqb x a e, ← ey, ← eb, ne_eqb y b n)
-
-  pub right_ab : x ≡ a → y ≡ f 510 + 256 * f 511 → y ≡ b → true ≡ is_checked f
-  unfolding is_checked
-  right_ab e ey d = rw (← ex, ← ea, eq-eqb x a e, ← ey, ← eb, eq-eqb y b d)
+-- ---- the check words held are those of the bytes, as one test
+pub is_checked_as : (b : List ℕ) (at x y a c : ℕ) → x ≡ pair_at b (at + 508) → y ≡ pair_at b (at + 510)
+    → a ≡ check_a (from b at) → c ≡ check_b (from b at)
+    → (eqb x a && eqb y c) ≡ is_checked (from b at)
+unfolding is_checked
+is_checked_as b at x y a c ex ey ea ec =
+    let p : at + 508 + 1 ≡ at + 509 = omega arith in
+    let q : at + 510 + 1 ≡ at + 511 = omega arith in
+    rw (ex, ey, ea, ec, p, q)

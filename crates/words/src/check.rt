@@ -2,16 +2,16 @@
 ghost use Rattle.std.specs.Prelude.{◌≡◌, ◌+◌, ◌*◌, ◌≤◌, length};
 ghost use Rattle.words.specs.Words.{block, from};
 ghost use Rattle.words.specs.Check.{check_a, check_b, is_checked};
-ghost use Rattle.numbers.specs.Lowest.{lowest};
+ghost use Rattle.numbers.specs.Lowest.{found};
 ghost use Rattle.words.specs.Asked.{Blocks};
 
 use crate::{pair_at, quad_at};
 
 // The two check words of a block.
-#[derive(Clone, Copy)]
+#[derive(Clone, Copy, PartialEq, Eq, Debug)]
 pub struct Check {
-    pub a: u64,
-    pub b: u64,
+    pub a: u16,
+    pub b: u16,
 }
 
 // 'A = sum of w_i mod 65535, B = sum of (254−i)·w_i mod 65535', of the block that starts at `at`:
@@ -36,8 +36,8 @@ pub fn check_of(bytes: &[u8], at: usize) -> Check
         weight -= 2;
     }
     Check {
-        a: (plain % 65_535) as u64,
-        b: ((weighted - second) % 65_535) as u64,
+        a: (plain % 65_535) as u16,
+        b: ((weighted - second) % 65_535) as u16,
     }
 }
 
@@ -46,27 +46,22 @@ fn check_right(bytes: &[u8], at: usize) -> bool
     requires { at + 512 ≤ length bytes.now }
     ensures { result ≡ is_checked (from bytes.now at) }
 {
-    let check = check_of(bytes, at);
-    if pair_at(bytes, at + 508) != check.a {
-        return false;
-    }
-    if pair_at(bytes, at + 510) != check.b {
-        return false;
-    }
-    true
+    let held = Check {
+        a: pair_at(bytes, at + 508),
+        b: pair_at(bytes, at + 510),
+    };
+    held == check_of(bytes, at)
 }
 
-// The lowest block whose check is wrong, or the number of blocks where every check is right.
-pub fn lowest_unchecked(bytes: &[u8], blocks: usize) -> usize
+// The lowest block whose check is wrong.
+pub fn lowest_unchecked(bytes: &[u8], blocks: usize) -> Option<usize>
     requires { Blocks bytes.now blocks }
-    ensures { result ≡ lowest (λ k. is_checked (block bytes.now k)) blocks }
+    ensures { result ≡ found (λ k. is_checked (block bytes.now k)) blocks }
 {
-    let mut k = 0;
-    while k < blocks {
+    for k in 0..blocks {
         if !check_right(bytes, k * 512) {
-            return k;
+            return Some(k);
         }
-        k += 1;
     }
-    k
+    None
 }
