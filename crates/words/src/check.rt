@@ -1,11 +1,10 @@
 // 'Check: bytes 0..507 as 254 words of 16 bits, w_0 first.'
-ghost use Rattle.std.specs.Prelude.{◌≡◌, ◌+◌, ◌*◌, ◌≤◌, length};
+ghost use Rattle.std.specs.Prelude.{◌≡◌, ◌+◌, ◌/◌, ◌≤◌, length};
 ghost use Rattle.words.specs.Words.{block, from};
 ghost use Rattle.words.specs.Check.{check_a, check_b, is_checked};
 ghost use Rattle.numbers.specs.Lowest.{found};
-ghost use Rattle.words.specs.Asked.{Blocks};
 
-use crate::{pair_at, quad_at};
+use crate::pair_at;
 
 // The two check words of a block.
 #[derive(Clone, Copy, PartialEq, Eq, Debug)]
@@ -26,8 +25,9 @@ pub fn check_of(bytes: &[u8], at: usize) -> Check
     let mut second: u32 = 0;
     let mut weighted: u32 = 0;
     let mut weight: u32 = 254;
-    for i in 0..127 {
-        let two = quad_at(bytes, at + 4 * i);
+    let (pairs, _) = bytes[at..at + 508].as_chunks();
+    for pair in pairs {
+        let two = u32::from_le_bytes(*pair);
         let low = two % 65_536;
         let high = two / 65_536;
         plain += low + high;
@@ -54,11 +54,11 @@ fn check_right(bytes: &[u8], at: usize) -> bool
 }
 
 // The lowest block whose check is wrong.
-pub fn lowest_unchecked(bytes: &[u8], blocks: usize) -> Option<usize>
-    requires { Blocks bytes.now blocks }
-    ensures { result ≡ found (λ k. is_checked (block bytes.now k)) blocks }
+pub fn lowest_unchecked(bytes: &[u8]) -> Option<usize>
+    ensures { result
+        ≡ found (λ k. is_checked (block bytes.now k)) (length bytes.now / 512) }
 {
-    for k in 0..blocks {
+    for k in 0..bytes.len() / 512 {
         if !check_right(bytes, k * 512) {
             return Some(k);
         }

@@ -44,7 +44,7 @@ pub fn number_at(bytes: &[u8], at: usize) -> i64
     requires { at + 8 ≤ length bytes.now }
     ensures { result ≡ number_at bytes.now at }
 {
-    word_at(bytes, at).cast_signed()
+    i64::from_le_bytes(bytes_at(bytes, at))
 }
 
 // Byte j of a number, the low one first; it has eight.
