@@ -92,6 +92,11 @@ every_not p n k h e = go (every p n) refl
     go true x = never (sym e ∙ every_at p n k x h)
     go false x = refl
 
+pub every_same : (p q : ℕ → Bool) (n : ℕ) → ((k : ℕ) → k < n → p k ≡ q k) → every p n ≡ every q n
+unfolding every
+every_same p q zero h = refl
+every_same p q (suc n) h = rw (h n (omega arith), every_same p q n (λ k l. h k (omega arith)))
+
 -- ---- a list by its places
 pub up_to_length : {A : Type 0} (f : ℕ → A) (n : ℕ) → length (up_to f n) ≡ n
 unfolding up_to
@@ -108,6 +113,12 @@ pub is_up_to : {A : Type 0} (f : ℕ → A) (n : ℕ) (d : A) (l : List A) → l
     → ((i : ℕ) → i < n → get_or l i d ≡ f i) → l ≡ up_to f n
 is_up_to f n d l e h =
     ext_get_or d l (up_to f n) (e ∙ sym (up_to_length f n)) (λ i k. h i (subst (λ (m : ℕ). i < m) e k) ∙ sym (up_to_at f n i d (subst (λ (m : ℕ). i < m) e k)))
+
+pub up_to_same : {A : Type 0} (f g : ℕ → A) (n : ℕ) → ((i : ℕ) → i < n → f i ≡ g i) → up_to f n ≡ up_to g n
+unfolding up_to
+up_to_same f g zero h = refl
+up_to_same f g (suc n) h =
+    rw (h 0 (suc_le zero-le), up_to_same (λ i. f (suc i)) (λ i. g (suc i)) n (λ i l. h (suc i) (suc_le l)))
 
 -- each place made of the same place of another list
 pub map_at : {A B : Type 0} (f : A → B) (l : List A) (d : A) (e : B) (i : ℕ) → i < length l
