@@ -43,7 +43,10 @@ fn zeros_from(bytes: &[u8], at: usize, left: usize) -> usize
     ensures { ZeroRun (from bytes.now at) left result }
 {
     let mut zeros = 0;
-    while 8 <= left - zeros && word_at(bytes, at + zeros) == 0 {
+    for word in bytes[at..at + left].as_chunks().0 {
+        if u64::from_le_bytes(*word) != 0 {
+            break;
+        }
         zeros += 8;
     }
     if 4 <= left - zeros && quad_at(bytes, at + zeros) == 0 {

@@ -3,7 +3,7 @@ use mathlib.Core.Path.{◌≡◌, refl, ◌∙◌, ap}
 use mathlib.Core.Bool.{true, ◌&&◌}
 use mathlib.Core.List.{List, []}
 use Prim.Native.Nat.{ℕ, zero, suc, ◌+◌, ◌*◌, ◌-◌, ◌/◌, ◌%◌, ◌≤◌, ◌<◌}
-use native.Mathlib.Nat.{add-zero, le_of_suc-le-suc, not-suc-le-zero}
+use native.Mathlib.Nat.{add-zero}
 use native.Mathlib.Numerals.{add-one}
 use native.Mathlib.Omega.{arith}
 use borrow.Author.Tests.{eq-eqb}
@@ -12,17 +12,11 @@ use lib.ListN.{length, get_or, take, drop}
 use lib.Seq.{get_or-take, get_or-drop}
 use Rattle.std.specs.Int.{w32, from_le_bytes}
 use Rattle.std.specs.Simd.{first_chunks}
+use Rattle.words.proofs.Chunks.{chunk_byte}
 use Rattle.words.specs.Words.{pair_at, quad_at, from}
 use Rattle.words.specs.Check.{word_of, sum_a, sum_b, check_a, check_b, is_checked}
 
 -- ---- the code goes over four bytes at a time
-four_byte : (k i j : ℕ) (l : List ℕ) → i < k → j < 4 → get_or (get_or (first_chunks 4 k l) i []) j 0 ≡ get_or l (4 * i + j) 0
-four_byte zero i j l h d = absurd (not-suc-le-zero h)
-four_byte (suc k) zero j l h d = get_or-take 4 l j 0 d ∙ (let e : j ≡ 4 * 0 + j = omega arith in ap (λ x. get_or l x 0) e)
-four_byte (suc k) (suc i) j l h d =
-    let e : 4 + (4 * i + j) ≡ 4 * suc i + j = omega arith in
-    four_byte k i j (drop 4 l) (le_of_suc-le-suc h) d ∙ get_or-drop 4 l (4 * i + j) 0 ∙ ap (λ x. get_or l x 0) e
-
 -- the number in them
 module _ (b : List ℕ) (at i : ℕ) (rows : List (List ℕ)) (h : i < 127) (l : i < length rows)
     (many : length rows ≡ length (take (at + 508 - at) (drop at b)) / 4)
@@ -31,7 +25,7 @@ module _ (b : List ℕ) (at i : ℕ) (rows : List (List ℕ)) (h : i < 127) (l :
   row_byte j d =
       let p : at + (4 * i + j) ≡ at + 4 * i + j = omega arith in
       ap (λ r. get_or (get_or r i []) j 0) e
-      ∙ four_byte (length (take (at + 508 - at) (drop at b)) / 4) i j (take (at + 508 - at) (drop at b)) (rw many at l) d
+      ∙ chunk_byte 4 (length (take (at + 508 - at) (drop at b)) / 4) i j (take (at + 508 - at) (drop at b)) (rw many at l) d
       ∙ get_or-take (at + 508 - at) (drop at b) (4 * i + j) 0 (omega arith)
       ∙ get_or-drop at b (4 * i + j) 0
       ∙ ap (λ x. get_or b x 0) p
