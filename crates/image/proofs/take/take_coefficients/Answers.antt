@@ -14,8 +14,8 @@ use Rattle.image.proofs.take.take_coefficients.Goals as goal
 pub loop-i-init : goal.loop-i-init
 loop-i-init c = (zero-le, refl, below_none _)
 
-pub coefficient-c-requires : goal.coefficient-c-requires
-coefficient-c-requires c = listed_stored _ c.args.count c.args.degree c.loop-i.i c.requires.bounds c.requires.blocks (omega arith)
+pub coefficient-requires : goal.coefficient-requires
+coefficient-requires c = listed_stored _ c.args.count c.args.degree c.loop-i.i c.requires.bounds c.requires.blocks (omega arith)
 
 pub loop-i-smaller : goal.loop-i-smaller
 loop-i-smaller c = omega arith
@@ -23,12 +23,12 @@ loop-i-smaller c = omega arith
 pub loop-i-preserved : goal.loop-i-preserved
 loop-i-preserved c =
     let l = c.loop-i in
-    let z = c.coefficient-c.result in
+    let z = c.coefficient.result in
     let at = coefficient_at c.args.bytes.now in (
       simp length-set (omega arith),
       simp length-set l.invariant.1,
       written_more l.coefficients l.i _ (pos 0) (λ j. at (j / (c.args.degree + 1)) (j % (c.args.degree + 1))) (omega arith) l.invariant.2
-          (to_z-of_z w64 z (record { sfits = c.coefficient-c.type_inv }) ∙ c.coefficient-c.ensures),
+          (to_z-of_z w64 z (record { sfits = c.coefficient.type_inv }) ∙ c.coefficient.ensures),
     )
 
 pub shape_of-coefficients : goal.shape_of-coefficients
