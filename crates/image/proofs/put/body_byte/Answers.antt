@@ -1,6 +1,6 @@
 -- `image::put::body_byte` meets its contract. Assumes nothing.
 use Rattle.form.proofs.FreeBytes.{free_zero, free_more}
-use Rattle.form.specs.Form.{is_free, is_number, is_coefficient}
+use Rattle.form.specs.Form.{is_free}
 use Rattle.image.specs.Image.{body_byte}
 use borrow.Author.Tests.{eq-eqb, ne_eqb}
 use mathlib.Core.Bool.{Bool, true, false}
