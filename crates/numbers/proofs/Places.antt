@@ -5,6 +5,7 @@ use mathlib.Core.List.{List, [], ◌∷◌, map}
 use mathlib.Core.Logic.{⊎_elim}
 use Prim.Native.Nat.{ℕ, zero, suc, ◌+◌, ◌≤◌, ◌<◌, zero-le}
 use native.Mathlib.Nat.{le_of_suc-le-suc, not-suc-le-zero, eq-or-lt_of_le, le_refl, lt_irrefl}
+use native.Mathlib.Decide.{dec_lt}
 use native.Mathlib.Omega.{arith}
 use borrow.Author.Count.{below_more}
 use borrow.Author.Tests.{lt-ltb, le-ltb}
@@ -71,6 +72,23 @@ found_some p n i h before here =
 pub found_none : (p : ℕ → Bool) (n : ℕ) → ((k : ℕ) → k < n → p k ≡ true) → None ≡ found p n
 unfolding found
 found_none p n all = rw (← none_fails p n all, le-ltb n n (le_refl n))
+
+-- and what it tells
+pub found_told : (p : ℕ → Bool) (n i : ℕ) → Some i ≡ found p n → (i ≡ lowest p n) × (i < n)
+unfolding found
+found_told p n i e = go (dec_lt (lowest p n) n)
+  where
+    go : Dec (lowest p n < n) → (i ≡ lowest p n) × (i < n)
+    go (yes h) = let d : Some i ≡ Some (lowest p n) = rw (lt-ltb (lowest p n) n h) at e in let z : i ≡ lowest p n = cc in (z, rw z h)
+    go (no h) = let d : Some i ≡ None = rw (le-ltb (lowest p n) n (omega arith)) at e in absurd (cc)
+
+pub none_found : (p : ℕ → Bool) (n : ℕ) → None ≡ found p n → n ≤ lowest p n
+unfolding found
+none_found p n e = go (dec_lt (lowest p n) n)
+  where
+    go : Dec (lowest p n < n) → n ≤ lowest p n
+    go (yes h) = let d : None ≡ Some (lowest p n) = rw (lt-ltb (lowest p n) n h) at e in absurd (cc)
+    go (no h) = omega arith
 
 -- ---- every place
 pub every_is : (p : ℕ → Bool) (n : ℕ) → ((k : ℕ) → k < n → p k ≡ true) → every p n ≡ true
