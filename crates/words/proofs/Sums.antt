@@ -1,13 +1,12 @@
 -- The sums of the check, a word more, and of bytes that agree. Assumes nothing.
-use mathlib.Core.Path.{◌≡◌, refl, sym, ◌∙◌, ap}
+use mathlib.Core.Path.{◌≡◌, refl, ◌∙◌, ap}
 use mathlib.Core.Bool.{true, ◌&&◌}
 use mathlib.Core.List.{List, []}
 use Prim.Native.Nat.{ℕ, zero, suc, ◌+◌, ◌*◌, ◌-◌, ◌/◌, ◌%◌, ◌≤◌, ◌<◌}
 use native.Mathlib.Nat.{add-zero}
 use native.Mathlib.Numerals.{add-one}
-use native.Mathlib.Decide.{ℕ_discrete}
 use native.Mathlib.Omega.{arith}
-use borrow.Author.Tests.{eq-eqb, ne_eqb}
+use borrow.Author.Tests.{eq-eqb}
 use lib.Dec.{eqb}
 use lib.ListN.{length, get_or, take, drop}
 use lib.Seq.{get_or-take, get_or-drop}
@@ -108,22 +107,15 @@ check_a_same f g e = ap (λ (n : ℕ). n % 65535) (sum_a_same f g 254 508 (omega
 pub check_b_same : (f g : ℕ → ℕ) → ((j : ℕ) → j < 508 → f j ≡ g j) → check_b f ≡ check_b g
 check_b_same f g e = ap (λ (n : ℕ). n % 65535) (sum_b_same f g 254 508 (omega arith) e)
 
--- ---- the check words are those held, as one test
-same_test : (x a : ℕ) → eqb a x ≡ eqb x a
-same_test x a = go (ℕ_discrete a x)
-  where
-    go : Dec (a ≡ x) → eqb a x ≡ eqb x a
-    go (yes e) = rw e
-    go (no n) = rw (ne_eqb a x n, ne_eqb x a (λ e. n (sym e)))
-
+-- ---- the check words held are those of the bytes, as one test
 pub is_checked_as : (b : List ℕ) (at x y a c : ℕ) → x ≡ pair_at b (at + 508) → y ≡ pair_at b (at + 510)
     → a ≡ check_a (from b at) → c ≡ check_b (from b at)
-    → (eqb a x && eqb c y) ≡ is_checked (from b at)
+    → (eqb x a && eqb y c) ≡ is_checked (from b at)
 unfolding is_checked
 is_checked_as b at x y a c ex ey ea ec =
     let p : at + 508 + 1 ≡ at + 509 = omega arith in
     let q : at + 510 + 1 ≡ at + 511 = omega arith in
-    rw (same_test x a, same_test y c, ex, ey, ea, ec, p, q)
+    rw (ex, ey, ea, ec, p, q)
 
 pub right_ab : (f : ℕ → ℕ) → f 508 + 256 * f 509 ≡ check_a f → f 510 + 256 * f 511 ≡ check_b f → true ≡ is_checked f
 unfolding is_checked

@@ -46,11 +46,11 @@ fn check_right(bytes: &[u8], at: usize) -> bool
     requires { at + 512 ≤ length bytes.now }
     ensures { result ≡ is_checked (from bytes.now at) }
 {
-    let check = check_of(bytes, at);
-    check == Check {
+    let held = Check {
         a: pair_at(bytes, at + 508),
         b: pair_at(bytes, at + 510),
-    }
+    };
+    held == check_of(bytes, at)
 }
 
 // The lowest block whose check is wrong.
