@@ -168,7 +168,8 @@ impl Shape {
     }
 
     // The lowest block below `blocks` that has a fixed byte wrong; those below `first` are known to
-    // be right.
+    // be right. 'Each test over all blocks before the next': nested loops over blocks and their
+    // bytes, a run of right ones a turn, left by a label.
     pub fn lowest_unformed(self, bytes: &[u8], first: usize, blocks: usize) -> Option<usize>
         requires { Search bytes.now self.count self.degree first blocks }
         ensures { result

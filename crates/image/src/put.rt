@@ -60,9 +60,8 @@ fn put_body(image: &mut [u8], table: Table, coefficients: &[i64], k: usize)
     ensures { Stores (body_byte table coefficients.now k) (k * 512) 508
         image.old image.new }
 {
-    for j in 0..508 {
-        let byte = body_byte(table, coefficients, k, j);
-        image[k * 512 + j] = byte;
+    for (j, byte) in image[k * 512..k * 512 + 508].iter_mut().enumerate() {
+        *byte = body_byte(table, coefficients, k, j);
     }
 }
 

@@ -197,19 +197,6 @@ module _ (b : List ℕ) (at : ℕ) (l : List ℕ) (small : (i : ℕ) → get_or 
       go false e true d = absurd (eqb-false x y e (p ∙ whole d ∙ sym z))
       go false e false d = sym d
 
--- eight bytes that make up 0 are all 0, and so are four
-pub zero_word : (b : List ℕ) (at : ℕ) → word_at b at ≡ 0 → (u : ℕ) → u < 8 → from b at u ≡ 0
-zero_word b at e =
-    pick8 (λ u. from b at u ≡ 0) (ap (λ x. get_or b x 0) (add-zero at) ∙ omega arith) (omega arith) (omega arith) (omega arith) (omega arith) (omega arith)
-    (omega arith) (omega arith)
-
-pub zero_quad : (b : List ℕ) (at : ℕ) → quad_at b at ≡ 0 → (u : ℕ) → u < 4 → from b at u ≡ 0
-zero_quad b at e zero l = ap (λ x. get_or b x 0) (add-zero at) ∙ omega arith
-zero_quad b at e (suc zero) l = omega arith
-zero_quad b at e (suc (suc zero)) l = omega arith
-zero_quad b at e (suc (suc (suc zero))) l = omega arith
-zero_quad b at e (suc (suc (suc (suc u)))) l = let z : ⊥ = omega arith in absurd z
-
 -- past m bytes that are 0, n more
 pub zero_more : (b : List ℕ) (at m n : ℕ) → ((u : ℕ) → u < m → from b at u ≡ 0)
     → ((u : ℕ) → u < n → from b (at + m) u ≡ 0) → (u : ℕ) → u < m + n
