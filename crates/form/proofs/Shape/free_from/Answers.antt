@@ -55,15 +55,6 @@ overflow_sub-result c = (slot c).low
 pub overflow_sub-result-2 : goal.overflow_sub-result-2
 overflow_sub-result-2 c = (slot (goal.at.overflow_sub-result-2 c).Else-k-eq0).which
 
-pub overflow_mul-result : goal.overflow_mul-result
-overflow_mul-result c = omega arith
-
-pub overflow_add-result : goal.overflow_add-result
-overflow_add-result c = omega arith
-
-pub overflow_sub-result-3 : goal.overflow_sub-result-3
-overflow_sub-result-3 c = omega arith
-
 pub returns : goal.returns
 returns c =
     rest c.args.self.count c.args.self.degree c.args.k c.args.j (slot (goal.at.returns c).Else-k-eq0) c.if-k-eq0.false c.args.self.few.degree

@@ -31,13 +31,10 @@ unfolding is_formed
 unformed G n k f j h e = every_not (is_right G n k f) 508 j h e
 
 pub blocks-2-init : goal.blocks-2-init
-blocks-2-init c = (refl, c.requires.start, c.requires.before)
+blocks-2-init c = (refl, c.requires.before)
 
 pub loop-j-init : goal.loop-j-init
 loop-j-init c = (c.blocks-2.invariant.0, zero-le, below_none _)
-
-pub right_from-right-requires : goal.right_from-right-requires
-right_from-right-requires c = omega arith
 
 pub overflow_add-j : goal.overflow_add-j
 overflow_add-j c = let i = c.right_from-right.ensures.inside in omega arith
@@ -55,18 +52,11 @@ loop-j-preserved c =
           c.right_from-right.ensures,
     )
 
-pub overflow_step-k : goal.overflow_step-k
-overflow_step-k c = omega arith
-
-pub blocks-2-smaller : goal.blocks-2-smaller
-blocks-2-smaller c = omega arith
-
 pub blocks-2-preserved : goal.blocks-2-preserved
 blocks-2-preserved c =
     let o = c.blocks-2 in (
       c.loop-j.invariant.0,
-      omega arith,
-      below_more _ _ o.invariant.2
+      below_more _ _ o.invariant.1
           (formed_is c.args.self.count c.args.self.degree o.k (block c.args.bytes.now o.k) (λ j h. c.loop-j.invariant.2 j (omega arith))),
     )
 
@@ -74,11 +64,11 @@ pub returns-after-blocks-2 : goal.returns-after-blocks-2
 returns-after-blocks-2 c =
     let o = c.blocks-2 in
     o.invariant.0
-    ∙ found_none (λ k. is_formed c.args.self.count c.args.self.degree k (block c.args.bytes.now k)) c.args.blocks (λ k h. o.invariant.2 k (omega arith))
+    ∙ found_none (λ k. is_formed c.args.self.count c.args.self.degree k (block c.args.bytes.now k)) c.args.blocks (λ k h. o.invariant.1 k (omega (arith, c.requires.start)))
 
 pub returns-then-right-eq0 : goal.returns-then-right-eq0
 returns-then-right-eq0 c =
     let o = c.blocks-2 in
-    found_some (λ k. is_formed c.args.self.count c.args.self.degree k (block c.args.bytes.now k)) c.args.blocks o.k c.blocks-2-test.true o.invariant.2
+    found_some (λ k. is_formed c.args.self.count c.args.self.degree k (block c.args.bytes.now k)) c.args.blocks o.k c.blocks-2-test.true o.invariant.1
     (unformed c.args.self.count c.args.self.degree o.k (block c.args.bytes.now o.k) c.loop-j.j c.loop-j-test.true
     (c.right_from-right.ensures.wrong c.if-right-eq0.true))

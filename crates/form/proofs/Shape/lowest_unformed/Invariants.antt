@@ -15,5 +15,5 @@ abbrev pub decreases-loop-j : goal.decreases-loop-j
 decreases-loop-j l = 508 - l.j
 
 abbrev pub invariant-blocks-2 : goal.invariant-blocks-2
-invariant-blocks-2 l = (l.found ≡ None) × (l.k ≤ l.blocks) × ((i : ℕ) → i < l.k → is_formed l.self.count l.self.degree i (block l.bytes i) ≡ true)
+invariant-blocks-2 l = (l.found ≡ None) × ((i : ℕ) → i < l.k → is_formed l.self.count l.self.degree i (block l.bytes i) ≡ true)
 

@@ -2,14 +2,10 @@ use Prim.Native.Nat.{◌+◌, ◌*◌, ◌≤◌}
 use Rattle.image.proofs.Stores.{put_part, part_long}
 use Rattle.image.specs.Image.{body_byte}
 use Rattle.numbers.proofs.Places.{written_more}
-use borrow.Author.Count.{below_none}
 use lib.ListN.{length}
 use mathlib.Core.Path.{◌∙◌}
 use native.Mathlib.Omega.{arith}
 use Rattle.image.proofs.put.put_body.Goals as goal
-
-pub loop-j-init : goal.loop-j-init
-loop-j-init c = below_none _
 
 pub loop-j-preserved : goal.loop-j-preserved
 loop-j-preserved c =

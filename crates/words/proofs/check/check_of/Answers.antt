@@ -31,27 +31,6 @@ pub loop-pair-init : goal.loop-pair-init
 unfolding sum_a sum_b
 loop-pair-init c = (zero-le, refl, refl, refl, zero-le, zero-le, zero-le)
 
-pub overflow_add-plain : goal.overflow_add-plain
-overflow_add-plain c = let s = small c in omega arith
-
-pub overflow_add-plain-in-loop-pair : goal.overflow_add-plain-in-loop-pair
-overflow_add-plain-in-loop-pair c = let s = small c in omega arith
-
-pub overflow_add-second : goal.overflow_add-second
-overflow_add-second c = let s = small c in omega arith
-
-pub overflow_add-weighted : goal.overflow_add-weighted
-overflow_add-weighted c = let s = small c in omega arith
-
-pub overflow_mul-weighted : goal.overflow_mul-weighted
-overflow_mul-weighted c = let s = small c in omega arith
-
-pub overflow_add-weighted-in-loop-pair : goal.overflow_add-weighted-in-loop-pair
-overflow_add-weighted-in-loop-pair c = let s = small c in omega arith
-
-pub overflow_sub-weight : goal.overflow_sub-weight
-overflow_sub-weight c = omega arith
-
 pub loop-pair-preserved : goal.loop-pair-preserved
 loop-pair-preserved c =
     let l = c.loop-pair in
@@ -69,9 +48,6 @@ loop-pair-preserved c =
       omega arith,
       omega arith,
     )
-
-pub overflow_sub-result : goal.overflow_sub-result
-overflow_sub-result c = omega arith
 
 pub returns : goal.returns
 returns c =

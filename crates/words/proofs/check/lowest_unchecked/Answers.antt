@@ -4,9 +4,6 @@ use mathlib.Core.Path.{sym, ◌∙◌}
 use native.Mathlib.Omega.{arith}
 use Rattle.words.proofs.check.lowest_unchecked.Goals as goal
 
-pub loop-k-init : goal.loop-k-init
-loop-k-init c = below_none _
-
 pub loop-k-preserved : goal.loop-k-preserved
 loop-k-preserved c = below_more _ _ c.loop-k.invariant (sym c.check_right.ensures ∙ c.if-not-check_right.false)
 
