@@ -181,7 +181,7 @@ module _ (t : Table) where
     module _ (b : length_within t ≡ true) where
       pub count_out : count_within t ≡ false → false ≡ is_bounded t
       unfolding is_bounded
-      count_out d = let p = both (le_z (pos shortest_length) t.length) _ b in 
+      count_out d = let p = both (le_z (pos shortest_length) t.length) _ b in
           rw (le-leb _ _ a, p.0, p.1) (neither4 (leb 1 t.count) (leb t.count most_granules) (is_valid t.start.0) (is_valid (end_of t)) d)
 
       module _ (d : count_within t ≡ true) where

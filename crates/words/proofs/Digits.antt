@@ -183,8 +183,16 @@ module _ (b : List ℕ) (at : ℕ) (l : List ℕ) (small : (i : ℕ) → get_or 
       whole : every is_same 8 ≡ true → word_at b at ≡ word_at l 0
       whole e =
           let f = ap (λ i. get_or b i 0) (sym (add-zero at)) ∙ each e 0 (omega arith) in
-          rw (f, each e 1 (omega arith), each e 2 (omega arith), each e 3 (omega arith), each e 4 (omega arith), each e 5 (omega arith),
-            each e 6 (omega arith), each e 7 (omega arith))
+          rw (
+            f,
+            each e 1 (omega arith),
+            each e 2 (omega arith),
+            each e 3 (omega arith),
+            each e 4 (omega arith),
+            each e 5 (omega arith),
+            each e 6 (omega arith),
+            each e 7 (omega arith),
+          )
 
       go : (v : Bool) → eqb x y ≡ v → (r : Bool) → every is_same 8 ≡ r → v ≡ every is_same 8
       go true e r d =

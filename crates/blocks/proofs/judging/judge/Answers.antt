@@ -135,7 +135,7 @@ returns c =
     ∙ ap (judged_tested c.table_of-table.result) c.test_stored.ensures
     ∙ tested_is (from14 c.args.bytes.now c.table_of-table.result) c.table_of-table.result
     ∙ sym (past12 c.args.bytes.now c.table_of-table.result (by12 (goal.at.returns c).Else-blocks-count)
-      (sym c.in_default-lowest_unformed.is ∙ c.lowest_unformed-2.ensures))
+    (sym c.in_default-lowest_unformed.is ∙ c.lowest_unformed-2.ensures))
     ∙ same_judged (goal.at.returns c).After-bounded
 
 pub returns-in-Some-lowest_unformed : goal.returns-in-Some-lowest_unformed

@@ -17,4 +17,4 @@ returns c =
     same_word b (c.args.k * 512) c.other_head.result (λ i. (c.type_inv.bytes i).fits) (λ i. search rules) _ _ c.word_at.ensures c.from_le_bytes.ensures
     ∙ every_same (λ j. eqb (block b c.args.k j) (get_or c.other_head.result j 0)) (λ j. eqb (block b c.args.k j) (fixed_byte c.args.self.count c.args.k j)) 8
     (λ j h. ap (λ l. eqb (block b c.args.k j) (get_or l j 0)) c.other_head.ensures
-      ∙ ap (eqb (block b c.args.k j)) (up_to_at (fixed_byte c.args.self.count c.args.k) 8 j 0 h))
+    ∙ ap (eqb (block b c.args.k j)) (up_to_at (fixed_byte c.args.self.count c.args.k) 8 j 0 h))

@@ -16,4 +16,3 @@ decreases-loop-j l = 508 - l.j
 
 abbrev pub invariant-blocks-2 : goal.invariant-blocks-2
 invariant-blocks-2 l = (l.found ≡ None) × ((i : ℕ) → i < l.k → is_formed l.self.count l.self.degree i (block l.bytes i) ≡ true)
-

@@ -11,4 +11,3 @@ invariant-loop-pair l =
     (l.pair-index ≤ 127) × (l.weight + 2 * l.pair-index ≡ 254) × (l.plain ≡ sum_a (from l.bytes l.at) (2 * l.pair-index)) × (l.weighted ≡ sum_b (from l.bytes l.at) (2 * l.pair-index) + l.second)
     × (l.plain ≤ 131070 * l.pair-index)
     × (l.second ≤ 65535 * l.pair-index) × (l.weighted ≤ 33291780 * l.pair-index)
-

@@ -1,5 +1,5 @@
 use Rattle.numbers.proofs.Places.{found_some, found_none}
-use borrow.Author.Count.{below_none, below_more}
+use borrow.Author.Count.{below_more}
 use mathlib.Core.Path.{sym, ◌∙◌}
 use native.Mathlib.Omega.{arith}
 use Rattle.words.proofs.check.lowest_unchecked.Goals as goal
