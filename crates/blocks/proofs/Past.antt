@@ -137,8 +137,8 @@ module _ (b : List ℕ) (t : Table) where
         (none_found (is_formed_in t b) (length b / 512) e)
 
 -- a search that has found no block not formed
-pub formed12 : (b : List ℕ) (t : Table) → None ≡ found (is_formed_in t b) (length b / 512) → length b / 512 ≡ blocks_of t.count
-    → (k : ℕ) → k < blocks_of t.count → is_formed_in t b k ≡ true
+pub formed12 : (b : List ℕ) (t : Table) → None ≡ found (is_formed_in t b) (length b / 512)
+    → length b / 512 ≡ blocks_of t.count → (k : ℕ) → k < blocks_of t.count → is_formed_in t b k ≡ true
 formed12 b t e d k l =
     all_pass (is_formed_in t b) (length b / 512) (none_found (is_formed_in t b) (length b / 512) e) k (subst (λ (x : ℕ). k < x) (sym d) l)
 

@@ -42,7 +42,8 @@ module _ (G n k j : ℕ) where
   unfolding is_coefficient
   coefficient_out e = rw e
 
-  pub coefficient_past : leb 8 j && ltb j 392 ≡ true → G ≤ granule_at k j → ltb (granule_at k j) G ≡ is_coefficient G n k j
+  pub coefficient_past : leb 8 j && ltb j 392 ≡ true → G ≤ granule_at k j
+      → ltb (granule_at k j) G ≡ is_coefficient G n k j
   unfolding is_coefficient
   coefficient_past e h = rw (e, le-ltb (granule_at k j) G h)
 

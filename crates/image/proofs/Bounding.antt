@@ -147,12 +147,15 @@ neither4 false e f g h = refl
 
 pub length_is : (r : RangeInclusive ℤ) (t : Table) (v w : Bool) → range_inclusive_start r ≡ pos shortest_length
     → range_inclusive_end r ≡ pos longest_length → range_inclusive_exhausted r ≡ false
-    → v ≡ range_inclusive_contains (λ x y. Some (int_cmp x y)) r (to_z w64 (of_z w64 t.length)) → v ≡ w → SFits w64 t.length → length_within t ≡ w
+    → v ≡ range_inclusive_contains (λ x y. Some (int_cmp x y)) r (to_z w64 (of_z w64 t.length)) → v ≡ w
+    → SFits w64 t.length → length_within t ≡ w
 length_is r t v w p q e d h f =
     sym (rw (to_z-of_z w64 t.length f) at d ∙ int_within r (pos shortest_length) (pos longest_length) t.length p q e) ∙ h
 
-pub count_is : (r : RangeInclusive ℕ) (t : Table) (v w : Bool) → range_inclusive_start r ≡ 1 → range_inclusive_end r ≡ most_granules
-    → range_inclusive_exhausted r ≡ false → v ≡ range_inclusive_contains (λ x y. Some (nat_cmp x y)) r t.count → v ≡ w → count_within t ≡ w
+pub count_is : (r : RangeInclusive ℕ) (t : Table) (v w : Bool) → range_inclusive_start r ≡ 1
+    → range_inclusive_end r ≡ most_granules → range_inclusive_exhausted r ≡ false
+    → v ≡ range_inclusive_contains (λ x y. Some (nat_cmp x y)) r t.count → v ≡ w
+    → count_within t ≡ w
 count_is r t v w p q e d h = sym (d ∙ nat_within r 1 most_granules t.count p q e) ∙ h
 
 pub count_back : (t : Table) → count_within t ≡ true → to_z w64 (of_z w64 (pos t.count)) ≡ pos t.count
@@ -175,7 +178,8 @@ module _ (t : Table) where
   module _ (a : t.degree ≤ most_degree) where
     pub length_out : length_within t ≡ false → false ≡ is_bounded t
     unfolding is_bounded
-    length_out b = rw (le-leb _ _ a) (neither2 (le_z (pos shortest_length) t.length) (le_z t.length (pos longest_length)) (leb 1 t.count) (leb t.count most_granules) (is_valid t.start.0)
+    length_out b = rw (le-leb _ _ a) (neither2 (le_z (pos shortest_length) t.length) (le_z t.length (pos longest_length)) (leb 1 t.count)
+        (leb t.count most_granules) (is_valid t.start.0)
         (is_valid (end_of t)) b)
 
     module _ (b : length_within t ≡ true) where

@@ -1,7 +1,7 @@
 -- The lowest place at which a test fails, a test of every place, and the list of what stands at
 -- each place.
-use Rattle.std.specs.Prelude.{Bool, true, cond, ◌&&◌, List, [], ◌∷◌, ℕ, zero, suc, ltb, Option, None}
-use Rattle.std.specs.Prelude.{Some}
+use Rattle.std.specs.Prelude.{Bool, true, cond, ◌&&◌, List, [], ◌∷◌, ℕ, zero, suc, ltb}
+use Rattle.std.specs.Prelude.{Option, None, Some}
 
 -- the lowest i below n with p i false, or n where there is none
 unfoldable pub lowest : (ℕ → Bool) → ℕ → ℕ

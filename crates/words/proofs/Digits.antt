@@ -162,7 +162,8 @@ module _ (b : List ℕ) (small : (i : ℕ) → get_or b i 0 < 256) where
       no n l h = let z : ⊥ = omega arith in absurd z
 
 -- ---- eight bytes are those of a list exactly where both make up one number
-module _ (b : List ℕ) (at : ℕ) (l : List ℕ) (small : (i : ℕ) → get_or b i 0 < 256) (few : (i : ℕ) → get_or l i 0 < 256) where
+module _ (b : List ℕ) (at : ℕ) (l : List ℕ) (small : (i : ℕ) → get_or b i 0 < 256)
+    (few : (i : ℕ) → get_or l i 0 < 256) where
   abbrev is_same : ℕ → Bool
   is_same j = eqb (get_or b (at + j) 0) (get_or l j 0)
 
@@ -173,8 +174,10 @@ module _ (b : List ℕ) (at : ℕ) (l : List ℕ) (small : (i : ℕ) → get_or 
       z = q ∙ regroup (get_or l 0 0) (get_or l 1 0) (get_or l 2 0) (get_or l 3 0) (get_or l 4 0) (get_or l 5 0) (get_or l 6 0) (get_or l 7 0)
         where
           regroup : (a c d e f g h i : ℕ)
-              → a + c * 256 + d * 65536 + e * 16777216 + f * 4294967296 + g * 1099511627776 + h * 281474976710656 + i * 72057594037927936
-              ≡ a + 256 * c + 65536 * d + 16777216 * e + 4294967296 * f + 1099511627776 * g + 281474976710656 * h + 72057594037927936 * i
+              → a + c * 256 + d * 65536 + e * 16777216 + f * 4294967296
+              + g * 1099511627776 + h * 281474976710656 + i * 72057594037927936
+              ≡ a + 256 * c + 65536 * d + 16777216 * e + 4294967296 * f
+              + 1099511627776 * g + 281474976710656 * h + 72057594037927936 * i
           regroup a c d e f g h i = omega arith
 
       each : every is_same 8 ≡ true → (u : ℕ) → u < 8 → get_or b (at + u) 0 ≡ get_or l u 0

@@ -40,5 +40,6 @@ loop-word-preserved c =
     let z = sym c.from_le_bytes.ensures ∙ c.if-from_le_bytes-ne0.false in (
       omega arith,
       zero_more b c.args.at l.zeros 8 l.invariant.1
-          (rw l.invariant.0 (zero_chunk b c.args.at c.args.left l.word-index c.as_chunks.result.0.now c.as_chunks.ensures.front (omega (arith, c.as_chunks.ensures.front_len)) z)),
+          (rw l.invariant.0 (zero_chunk b c.args.at c.args.left l.word-index c.as_chunks.result.0.now c.as_chunks.ensures.front
+          (omega (arith, c.as_chunks.ensures.front_len)) z)),
     )

@@ -40,7 +40,8 @@ by_first c t =
 first_is : (c : Else-is_some) → is_formed 0 0 0 (block c.args.bytes.now 0) ≡ true
 first_is c = first_formed (λ k. is_formed 0 0 k (block c.args.bytes.now k)) _ c.lowest_unformed.ensures (sym c.is_some.ensures ∙ c.if-is_some.false)
 
-by13 : (c : Else-is_some) (t : Table) → judged_by (table_tests c.args.bytes.now t) t ≡ judged_by (from13 c.args.bytes.now t) t
+by13 : (c : Else-is_some) (t : Table) → judged_by (table_tests c.args.bytes.now t) t
+    ≡ judged_by (from13 c.args.bytes.now t) t
 by13 c t = past_first c.args.bytes.now t (by_first (goal.at.Else-is_some c).In_default t) (first_is c)
 
 -- the answer over the table in hand is that over the bytes' own

@@ -1,5 +1,5 @@
--- `form::Shape::free_from` meets its contract: the rest of a granule's coefficients is free as a whole.
--- Assumes nothing.
+-- `form::Shape::free_from` meets its contract: the rest of a granule's coefficients is free as a
+-- whole. Assumes nothing.
 use Prim.Native.Nat.{ℕ, ◌+◌, ◌-◌, ◌≤◌, ◌<◌}
 use Rattle.form.proofs.FreeBytes.{Slot, slot_told, slot_is, free_more, rest_at, rest_slot}
 use Rattle.form.specs.Asked.{FreeRun}

@@ -64,7 +64,8 @@ pub returns-after-blocks-2 : goal.returns-after-blocks-2
 returns-after-blocks-2 c =
     let o = c.blocks-2 in
     o.invariant.0
-    ∙ found_none (λ k. is_formed c.args.self.count c.args.self.degree k (block c.args.bytes.now k)) c.args.blocks (λ k h. o.invariant.1 k (omega (arith, c.requires.start)))
+    ∙ found_none (λ k. is_formed c.args.self.count c.args.self.degree k (block c.args.bytes.now k)) c.args.blocks
+    (λ k h. o.invariant.1 k (omega (arith, c.requires.start)))
 
 pub returns-then-right-eq0 : goal.returns-then-right-eq0
 returns-then-right-eq0 c =

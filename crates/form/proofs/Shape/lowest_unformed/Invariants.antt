@@ -1,5 +1,5 @@
--- `form::Shape::lowest_unformed` meets its contract. Outside: every block passed is formed. Inside: every
--- byte passed is right. Assumes nothing.
+-- `form::Shape::lowest_unformed` meets its contract. Outside: every block passed is formed. Inside:
+-- every byte passed is right. Assumes nothing.
 use Prim.Native.Nat.{ℕ, ◌-◌, ◌≤◌, ◌<◌}
 use Rattle.form.specs.Form.{is_formed, is_right}
 use Rattle.words.specs.Words.{block}

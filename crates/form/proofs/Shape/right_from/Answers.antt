@@ -70,7 +70,9 @@ pub free_from-free-requires : goal.free_from-free-requires
 free_from-free-requires c = c.requires.within
 
 pub returns-then-free-ne0 : goal.returns-then-free-ne0
-returns-then-free-ne0 c = free_run c.args.self.count c.args.self.degree c.args.k (block c.args.bytes.now c.args.k) c.args.j _ c.free_from-free.ensures c.if-free-ne0.true
+returns-then-free-ne0 c =
+    free_run c.args.self.count c.args.self.degree c.args.k (block c.args.bytes.now c.args.k) c.args.j _ c.free_from-free.ensures
+    c.if-free-ne0.true
 
 pub zeros_from-zeros-requires : goal.zeros_from-zeros-requires
 zeros_from-zeros-requires c = let i = c.requires in omega (arith, i.long, i.within.place)

@@ -26,7 +26,8 @@ returns-then-table-gt-MOST_DEGREE c =
           w.if-not-contains.false (search rules))
           (count_is w.new-else-not-contains.result t w.contains-else-not-contains.result _ w.new-else-not-contains.ensures.start
           w.new-else-not-contains.ensures.end w.new-else-not-contains.ensures.exhausted w.contains-else-not-contains.ensures.value w.if-not-contains-2.true)
-      | then-table-gt-MOST_DEGREE-via-else-table-gt-MOST_DEGREE+else-not-contains+else-not-contains-2+then-not-valid w ↦ start_out t w.if-table-gt-MOST_DEGREE.false
+      | then-table-gt-MOST_DEGREE-via-else-table-gt-MOST_DEGREE+else-not-contains+else-not-contains-2+then-not-valid w ↦
+      start_out t w.if-table-gt-MOST_DEGREE.false
           (length_is w.new.result t w.contains.result _ w.new.ensures.start w.new.ensures.end w.new.ensures.exhausted w.contains.ensures.value
           w.if-not-contains.false (search rules))
           (count_is w.new-else-not-contains.result t w.contains-else-not-contains.result _ w.new-else-not-contains.ensures.start
@@ -37,7 +38,8 @@ returns-then-table-gt-MOST_DEGREE c =
 pub overflow_add-start : goal.overflow_add-start
 overflow_add-start c =
     let t = c.args.table in
-    let l : length_within t ≡ true = (length_is c.new.result t c.contains.result _ c.new.ensures.start c.new.ensures.end c.new.ensures.exhausted c.contains.ensures.value
+    let l : length_within t ≡ true = (length_is c.new.result t c.contains.result _ c.new.ensures.start c.new.ensures.end
+    c.new.ensures.exhausted c.contains.ensures.value
     c.if-not-contains.false (search rules)) in
     let n : count_within t ≡ true = (count_is c.new-else-not-contains.result t c.contains-else-not-contains.result _ c.new-else-not-contains.ensures.start
     c.new-else-not-contains.ensures.end c.new-else-not-contains.ensures.exhausted c.contains-else-not-contains.ensures.value c.if-not-contains-2.false) in
@@ -54,7 +56,8 @@ overflow_add-start c =
 pub returns : goal.returns
 returns c =
     let t = c.args.table in
-    let l : length_within t ≡ true = (length_is c.new.result t c.contains.result _ c.new.ensures.start c.new.ensures.end c.new.ensures.exhausted c.contains.ensures.value
+    let l : length_within t ≡ true = (length_is c.new.result t c.contains.result _ c.new.ensures.start c.new.ensures.end
+    c.new.ensures.exhausted c.contains.ensures.value
     c.if-not-contains.false (search rules)) in
     let n : count_within t ≡ true = (count_is c.new-else-not-contains.result t c.contains-else-not-contains.result _ c.new-else-not-contains.ensures.start
     c.new-else-not-contains.ensures.end c.new-else-not-contains.ensures.exhausted c.contains-else-not-contains.ensures.value c.if-not-contains-2.false) in

@@ -39,7 +39,9 @@ pub overflow_add-c-2 : goal.overflow_add-c-2
 overflow_add-c-2 c = let a = at (goal.at.overflow_add-c-2 c).Start in let b = all (goal.at.overflow_add-c-2 c).Start in omega arith
 
 pub offset_bounds-coefficients-granule : goal.offset_bounds-coefficients-granule
-offset_bounds-coefficients-granule c = let a = at (goal.at.offset_bounds-coefficients-granule c).Start in let b = all (goal.at.offset_bounds-coefficients-granule c).Start in omega arith
+offset_bounds-coefficients-granule c =
+    let a = at (goal.at.offset_bounds-coefficients-granule c).Start in
+    let b = all (goal.at.offset_bounds-coefficients-granule c).Start in omega arith
 
 pub bounds-coefficients-granule : goal.bounds-coefficients-granule
 bounds-coefficients-granule c = rw c.requires.coefficients (at (goal.at.bounds-coefficients-granule c).Start)

@@ -8,6 +8,7 @@ use Rattle.words.proofs.check.check_of.Given as goal
 
 abbrev pub invariant-loop-pair : goal.invariant-loop-pair
 invariant-loop-pair l =
-    (l.pair-index ≤ 127) × (l.weight + 2 * l.pair-index ≡ 254) × (l.plain ≡ sum_a (from l.bytes l.at) (2 * l.pair-index)) × (l.weighted ≡ sum_b (from l.bytes l.at) (2 * l.pair-index) + l.second)
+    (l.pair-index ≤ 127) × (l.weight + 2 * l.pair-index ≡ 254) × (l.plain ≡ sum_a (from l.bytes l.at) (2 * l.pair-index))
+    × (l.weighted ≡ sum_b (from l.bytes l.at) (2 * l.pair-index) + l.second)
     × (l.plain ≤ 131070 * l.pair-index)
     × (l.second ≤ 65535 * l.pair-index) × (l.weighted ≤ 33291780 * l.pair-index)
