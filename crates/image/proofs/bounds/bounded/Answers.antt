@@ -27,7 +27,7 @@ returns-then-table-gt-MOST_DEGREE c =
           (count_is w.new-else-not-contains.result t w.contains-else-not-contains.result _ w.new-else-not-contains.ensures.start
           w.new-else-not-contains.ensures.end w.new-else-not-contains.ensures.exhausted w.contains-else-not-contains.ensures.value w.if-not-contains-2.true)
       | then-table-gt-MOST_DEGREE-via-else-table-gt-MOST_DEGREE+else-not-contains+else-not-contains-2+then-not-valid w ↦
-      start_out t w.if-table-gt-MOST_DEGREE.false
+          start_out t w.if-table-gt-MOST_DEGREE.false
           (length_is w.new.result t w.contains.result _ w.new.ensures.start w.new.ensures.end w.new.ensures.exhausted w.contains.ensures.value
           w.if-not-contains.false (search rules))
           (count_is w.new-else-not-contains.result t w.contains-else-not-contains.result _ w.new-else-not-contains.ensures.start
