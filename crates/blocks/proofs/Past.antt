@@ -1,6 +1,6 @@
 -- Table bytes, one equation for each test passed: what is judged is what the tests left judge.
 -- Assumes nothing.
-use Rattle.std.specs.Prelude.{Ok}
+use Rattle.std.specs.Prelude.{Ok, Option, None, Some}
 use mathlib.Core.Path.{◌≡◌, refl, sym, ◌∙◌, subst}
 use mathlib.Core.Bool.{Bool, true, false, ◌&&◌}
 use mathlib.Core.List.{List, ◌∷◌}
@@ -10,21 +10,22 @@ use native.Mathlib.Omega.{arith}
 use borrow.Author.Tests.{eqb-true, eq-eqb, ne_eqb, leb-true, le-leb}
 use lib.Dec.{leb, eqb}
 use lib.ListN.{length}
-use Rattle.numbers.specs.Lowest.{lowest}
+use Rattle.std.specs.Option.{is_some}
+use Rattle.numbers.specs.Lowest.{found}
 use Rattle.numbers.specs.Tests.{Test, test, single}
 use Rattle.numbers.proofs.Flags.{both}
-use Rattle.numbers.proofs.Places.{all_pass}
-use Rattle.numbers.proofs.Verdicts.{stops, goes, stop, go, one_stop}
+use Rattle.numbers.proofs.Places.{all_pass, found_told, none_found}
+use Rattle.numbers.proofs.Verdicts.{stops, goes, stop, go, one_stop, one_go}
 use Rattle.words.specs.Words.{block, most_blocks}
 use Rattle.words.specs.Check.{is_checked}
 use Rattle.form.specs.Form.{blocks_of, is_free, fixed_byte, is_formed}
 use Rattle.form.specs.Asked.{Search}
-use Rattle.image.specs.Bounds.{is_bounded, Bounded}
-use Rattle.image.specs.Image.{granule_stored, table_of}
+use Rattle.image.specs.Bounds.{is_bounded}
+use Rattle.image.specs.Image.{granule_stored}
 use Rattle.image.specs.declared.table.Table.{Table}
 use Rattle.granules.specs.Tests.{granule_tests}
 use Rattle.blocks.specs.Answers.{judged_refused}
-use Rattle.blocks.specs.Judging.{judged_by, is_whole, is_formed_in, table_tests, judged}
+use Rattle.blocks.specs.Judging.{judged_by, is_whole, is_formed_in, table_tests}
 
 -- ---- bytes in whole blocks
 pub record Whole (length : ℕ) : Type 0 where
@@ -86,12 +87,17 @@ module _ (b : List ℕ) (t : Table) where
   pub past10 : is_whole (length b) ≡ true → By (from11 b t)
   past10 e = go judged_refused (Ok t) 10 (is_whole (length b)) (from11 b t) e
 
-  module _ (p : By (from11 b t)) (r : ℕ) (e : r ≡ lowest (λ k. is_checked (block b k)) (length b / 512)) where
-    pub refused11 : r < length b / 512 → Is 11 r
-    refused11 h = stops judged_refused (Ok t) 11 (length b / 512) (λ k. is_checked (block b k)) (from_first b t) r e h ∙ sym p
+  module _ (p : By (from11 b t)) where
+    pub refused11 : (r : ℕ) → Some r ≡ found (λ k. is_checked (block b k)) (length b / 512) → Is 11 r
+    refused11 r e =
+        let f = found_told (λ k. is_checked (block b k)) (length b / 512) r e in
+        stops judged_refused (Ok t) 11 (length b / 512) (λ k. is_checked (block b k)) (from_first b t) r f.0 f.1 ∙ sym p
 
-    pub past11 : length b / 512 ≤ r → By (from_first b t)
-    past11 h = p ∙ goes judged_refused (Ok t) 11 (length b / 512) (λ k. is_checked (block b k)) (from_first b t) r e h
+    pub past11 : None ≡ found (λ k. is_checked (block b k)) (length b / 512) → By (from_first b t)
+    past11 e =
+        p
+        ∙ goes judged_refused (Ok t) 11 (length b / 512) (λ k. is_checked (block b k)) (from_first b t) _ refl
+        (none_found (λ k. is_checked (block b k)) (length b / 512) e)
 
   module _ (p : By (from_first b t)) where
     same_form : {v : Bool} → is_formed 0 0 0 (block b 0) ≡ v → is_formed_in t b 0 ≡ v
@@ -117,25 +123,29 @@ module _ (b : List ℕ) (t : Table) where
         p
         ∙ go judged_refused (Ok t) 13 (is_right13 b t) (from12 b t) (rw (e, eq-eqb (length b / 512) (blocks_of t.count) d))
 
-  module _ (p : By (from12 b t)) (r : ℕ) (e : r ≡ lowest (is_formed_in t b) (length b / 512)) where
-    pub refused12 : r < length b / 512 → Is 12 r
-    refused12 h = stops judged_refused (Ok t) 12 (length b / 512) (is_formed_in t b) (from14 b t) r e h ∙ sym p
+  module _ (p : By (from12 b t)) where
+    pub refused12 : (r : ℕ) → Some r ≡ found (is_formed_in t b) (length b / 512) → Is 12 r
+    refused12 r e =
+        let f = found_told (is_formed_in t b) (length b / 512) r e in
+        stops judged_refused (Ok t) 12 (length b / 512) (is_formed_in t b) (from14 b t) r f.0 f.1 ∙ sym p
 
-    pub past12 : length b / 512 ≤ r → By (from14 b t)
-    past12 h = p ∙ goes judged_refused (Ok t) 12 (length b / 512) (is_formed_in t b) (from14 b t) r e h
+    pub past12 : None ≡ found (is_formed_in t b) (length b / 512) → By (from14 b t)
+    past12 e =
+        p
+        ∙ goes judged_refused (Ok t) 12 (length b / 512) (is_formed_in t b) (from14 b t) _ refl
+        (none_found (is_formed_in t b) (length b / 512) e)
 
 -- a search that has found no block not formed
-pub formed12 : (b : List ℕ) (t : Table) (r : ℕ) → r ≡ lowest (is_formed_in t b) (length b / 512) → length b / 512 ≤ r
+pub formed12 : (b : List ℕ) (t : Table) → None ≡ found (is_formed_in t b) (length b / 512)
     → length b / 512 ≡ blocks_of t.count → (k : ℕ) → k < blocks_of t.count → is_formed_in t b k ≡ true
-formed12 b t r e h d k l =
-    all_pass (is_formed_in t b) (length b / 512) (subst (λ (x : ℕ). length b / 512 ≤ x) e h) k (subst (λ (x : ℕ). k < x) (sym d) l)
+formed12 b t e d k l =
+    all_pass (is_formed_in t b) (length b / 512) (none_found (is_formed_in t b) (length b / 512) e) k (subst (λ (x : ℕ). k < x) (sym d) l)
 
 -- the search for a block above 0 that is not formed
-pub search_for : (b : List ℕ) (t : Table) → Whole (length b) → Bounded t → length b / 512 ≡ blocks_of t.count
+pub search_for : (b : List ℕ) (t : Table) → Whole (length b) → length b / 512 ≡ blocks_of t.count
     → is_formed 0 0 0 (block b 0) ≡ true → Search b t.count t.degree 1 (length b / 512)
-search_for b t w o d f =
+search_for b t w d f =
     record {
-      bounds = o.few;
       long = le_of_eq (sym w.blocks);
       within = le_of_eq d;
       start = omega (arith, w.some);
@@ -144,11 +154,11 @@ search_for b t w o d f =
           subst (λ (i : ℕ). is_formed_in t b i ≡ true) (sym y) (sym (first_form t.count t.degree (block b 0)) ∙ f);
     }
 
--- ---- refusal 12 of block 0, by the code's tests alone
-pub unformed_first : (b : List ℕ) → is_whole (length b) ≡ true
-    → length b / 512 ≤ lowest (λ k. is_checked (block b k)) (length b / 512)
-    → lowest (λ k. is_formed 0 0 k (block b k)) 1 < 1 → judged_refused 12 0 ≡ judged b
-unfolding judged
-unformed_first b w k h =
-    let t = table_of b in
-    refused12_first b t (past11 b t (past10 b t w) _ refl k) (one_stop (λ k. is_formed 0 0 k (block b k)) _ refl h)
+-- ---- block 0 is looked at alone
+pub first_unformed : (p : ℕ → Bool) (r : Option ℕ) → r ≡ found p 1 → is_some r ≡ true → p 0 ≡ false
+first_unformed p None e h = absurd (cc)
+first_unformed p (Some r) e h = let f = found_told p 1 r e in one_stop p r f.0 f.1
+
+pub first_formed : (p : ℕ → Bool) (r : Option ℕ) → r ≡ found p 1 → is_some r ≡ false → p 0 ≡ true
+first_formed p None e h = one_go p _ refl (none_found p 1 e)
+first_formed p (Some r) e h = absurd (cc)

@@ -3,7 +3,7 @@ ghost use Rattle.std.specs.Prelude.{◌≡◌};
 ghost use Rattle.blocks.specs.Judging.{is_whole, judged};
 
 use crate::told::refused;
-use form::lowest_unformed;
+use form::Shape;
 use granules::test_stored;
 use image::bounds::bounded;
 use image::table::{Table, table_of};
@@ -22,7 +22,6 @@ fn whole(length: usize) -> bool
 
 // The table's numbers, or the first of refusals 10, 11, 12 (block 0), 13, 12 (others), 14, 15, 16,
 // 'each test over all blocks before the next'.
-#[tactic(auto, using(crate::proofs::Past::unformed_first))]
 pub fn judge(bytes: &[u8]) -> Result<Table, Refusal>
     ensures { result ≡ judged bytes.now }
 {
@@ -30,25 +29,30 @@ pub fn judge(bytes: &[u8]) -> Result<Table, Refusal>
     if !whole(length) {
         return refused(10, 0);
     }
-    let blocks = length / 512;
-    let unchecked = lowest_unchecked(bytes, blocks);
-    if unchecked < blocks {
+    if let Some(unchecked) = lowest_unchecked(bytes) {
         return refused(11, unchecked);
     }
-    if lowest_unformed(bytes, 0, 0, 0, 1) < 1 {
+    let unknown = Shape {
+        count: 0,
+        degree: 0,
+    };
+    if unknown.lowest_unformed(bytes, 0, 1).is_some() {
         return refused(12, 0);
     }
     let table = table_of(bytes);
     if !bounded(table) {
         return refused(13, 0);
     }
+    let blocks = length / 512;
     let count = table.count as usize;
     if blocks != 1 + (count + 2) / 3 {
         return refused(13, 0);
     }
-    let degree = table.degree as usize;
-    let unformed = lowest_unformed(bytes, count, degree, 1, blocks);
-    if unformed < blocks {
+    let shape = Shape {
+        count,
+        degree: table.degree as usize,
+    };
+    if let Some(unformed) = shape.lowest_unformed(bytes, 1, blocks) {
         return refused(12, unformed);
     }
     test_stored(bytes, table)?;

@@ -1,14 +1,12 @@
--- What the inner functions ask of their callers, and what they give. Block 0's form is looked at
--- before its numbers are known, so a table is a bare count G and degree n here.
+-- What the inner functions ask of their callers, and what they give. A table is its count G and
+-- degree n here, few as `Few` says.
 use Rattle.std.specs.Prelude.{◌≡◌, true, false, List, ℕ, ◌+◌, ◌*◌, ◌≤◌, ◌<◌, length}
 use Rattle.words.specs.Words.{block}
-use Rattle.form.specs.Few.{most_granules, Few}
 use Rattle.form.specs.Form.{blocks_of, is_free, is_right, is_formed}
 
 -- ---- what is asked
 -- a block above 0 that the table has
 pub record OtherBlock (G k : ℕ) : Type 0 where
-  pub few : G ≤ most_granules
   pub other : 1 ≤ k
   pub full : 3 * k < G + 3
 
@@ -18,19 +16,17 @@ pub record Headed (b : List ℕ) (G k : ℕ) : Type 0 where
   pub long : k * 512 + 512 ≤ length b
 
 -- a byte of a block that the table has, below its check
-pub record BodyPlace (G n k j : ℕ) : Type 0 where
-  pub bounds : Few G n
+pub record BodyPlace (G k j : ℕ) : Type 0 where
   pub full : 3 * k < G + 3
   pub place : j < 508
 
 -- such a byte, in bytes that have its block
-pub record Inside (b : List ℕ) (G n k j : ℕ) : Type 0 where
-  pub within : BodyPlace G n k j
+pub record Inside (b : List ℕ) (G k j : ℕ) : Type 0 where
+  pub within : BodyPlace G k j
   pub long : k * 512 + 512 ≤ length b
 
 -- what a search for a wrong fixed byte starts from: the blocks below the first are right
 pub record Search (b : List ℕ) (G n first blocks : ℕ) : Type 0 where
-  pub bounds : Few G n
   pub long : blocks * 512 ≤ length b
   pub within : blocks ≤ blocks_of G
   pub start : first ≤ blocks

@@ -179,9 +179,9 @@ module _ (t : Table) (c : List ℤ) (b : List ℕ) (img : IsImage t c b) where
       let ea : check_a f ≡ check_a g = sym (check_a_same g f (body_back k h)) in
       let eb : check_b f ≡ check_b g = sym (check_b_same g f (body_back k h)) in
       sym
-      (right_ab g (check_a f) (check_b f) _ _ ea eb refl
-      (two (g 508) (g 509) (check_a f) (mod-lt (sum_a f 254) (omega arith)) (block_back k h 508 (omega arith)) (block_back k h 509 (omega arith))) refl
-      (two (g 510) (g 511) (check_b f) (mod-lt (sum_b f 254) (omega arith)) (block_back k h 510 (omega arith)) (block_back k h 511 (omega arith))))
+      (right_ab g
+      (two (g 508) (g 509) (check_a f) (mod-lt (sum_a f 254) (omega arith)) (block_back k h 508 (omega arith)) (block_back k h 509 (omega arith)) ∙ ea)
+      (two (g 510) (g 511) (check_b f) (mod-lt (sum_b f 254) (omega arith)) (block_back k h 510 (omega arith)) (block_back k h 511 (omega arith)) ∙ eb))
     where
       two : (x y a : ℕ) → a < 65535 → x ≡ byte_of a 0 → y ≡ byte_of a 1 → x + 256 * y ≡ a
       two x y a h p q = omega arith

@@ -1,15 +1,15 @@
 -- Stores that fill a buffer from the front: its body, its check, the next block. Assumes nothing.
-use mathlib.Core.Path.{◌≡◌, refl, sym, ◌∙◌, ap}
-use mathlib.Core.List.{List}
+use mathlib.Core.Path.{◌≡◌, sym, ◌∙◌, ap}
+use mathlib.Core.List.{List, ◌++◌}
 use Prim.Native.Nat.{ℕ, ◌+◌, ◌*◌, ◌-◌, ◌/◌, ◌%◌, ◌≤◌, ◌<◌}
-use native.Mathlib.Nat.{not-suc-le-zero}
 use native.Mathlib.Decide.{dec_lt}
 use native.Mathlib.Omega.{arith}
 use borrow.Author.Tests.{lt-ltb}
-use borrow.Author.Count.{below_more}
 use lib.IntN.{ℤ}
-use lib.ListN.{length, get_or, set, length-set}
-use lib.Seq.{get_or-set_same, get_or-set_other}
+use borrow.Rule.Slice.PartMut.{put_mid, same_len_mid}
+use lib.ListN.{length, get_or, get_or-append, take, drop, set, length-set, length-drop}
+use lib.Seq.{get_or-set_same, get_or-set_other, get_or-take, length-take-le}
+use Rattle.std.proofs.lemmas.List.{get_or-append-add}
 use Rattle.image.specs.declared.table.Table.{Table}
 use Rattle.words.specs.Words.{byte_of, from}
 use Rattle.words.specs.Check.{check_a, check_b}
@@ -18,19 +18,29 @@ use Rattle.image.specs.Asked.{Stores, Sealed}
 use Rattle.words.proofs.Sums.{check_a_same, check_b_same}
 use Rattle.numbers.proofs.Places.{not_same}
 
-pub put_none : (f : ℕ → ℕ) (at : ℕ) (b : List ℕ) → Stores f at 0 b b
-put_none f at b = record { long = refl; below = λ i h. refl; each = λ j h. absurd (not-suc-le-zero h) }
+-- a part that is put whole
+pub part_long : (at : ℕ) (b : List ℕ) → at + 508 ≤ length b → length (take (at + 508 - at) (drop at b)) ≡ 508
+part_long at b h = let e : at + 508 - at ≡ 508 = omega arith in rw e (length-take-le 508 (drop at b) (rw length-drop (omega arith)))
 
-pub put_more : (f : ℕ → ℕ) (at j x : ℕ) (b₀ b : List ℕ) → Stores f at j b₀ b → at + j < length b → x ≡ f j
-    → Stores f at (j + 1) b₀ (set b (at + j) x)
-put_more f at j x b₀ b p h e =
-    record {
-      long = length-set b (at + j) x ∙ p.long;
-      below = λ i l. get_or-set_other b (at + j) i x 0 (not_same (omega arith)) ∙ p.below i l;
-      each =
-          below_more (λ i. get_or (set b (at + j) x) (at + i) 0 ≡ f i) j (λ i l. get_or-set_other b (at + j) (at + i) x 0 (not_same (omega arith)) ∙ p.each i l)
-          (get_or-set_same b (at + j) x 0 h ∙ e);
-    }
+module _ (f : ℕ → ℕ) (at : ℕ) (b l : List ℕ) (h : at + 508 ≤ length b) (long : length l ≡ 508) where
+  abbrev part : List ℕ
+  part = put_mid at (at + 508 - at) b l
+
+  abbrev rest : List ℕ
+  rest = drop (at + 508 - at) (drop at b)
+
+  before : length (take at b) ≡ at
+  before = length-take-le at b (omega arith)
+
+  pub put_part : ((j : ℕ) → j < 508 → get_or l j 0 ≡ f j) → Stores f at 508 b part
+  put_part e =
+      record {
+        long = same_len_mid at (at + 508 - at) b l (long ∙ sym (part_long at b h));
+        below = λ i g. get_or-append (take at b) (l ++ rest) 0 i (rw before g) ∙ get_or-take at b i 0 g;
+        each =
+            λ j g. ap (λ n. get_or part (n + j) 0) (sym before) ∙ get_or-append-add (take at b) (l ++ rest) j 0
+            ∙ get_or-append l rest 0 j (rw long g) ∙ e j g;
+      }
 
 -- ---- four stores
 module _ (b : List ℕ) (at x y : ℕ) (h : at + 512 ≤ length b) (ex : x ≡ check_a (from b at))

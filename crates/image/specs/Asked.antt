@@ -11,7 +11,7 @@ use Rattle.image.specs.Image.{how_many}
 
 -- a byte of a coefficient that the list has
 pub record Holding (c : List ℤ) (G n k j : ℕ) : Type 0 where
-  pub within : BodyPlace G n k j
+  pub within : BodyPlace G k j
   pub coefficients : length c ≡ G * (n + 1)
   pub coefficient : is_coefficient G n k j ≡ true
   pub other : 1 ≤ k

@@ -23,24 +23,13 @@ pub fn bounded(table: Table) -> bool
 {
     let start = table.start;
     let length = table.length;
-    if table.degree > MOST_DEGREE {
-        return false;
-    }
-    if length < SHORTEST_LENGTH {
-        return false;
-    }
-    if length > LONGEST_LENGTH {
-        return false;
-    }
-    if table.count < 1 {
-        return false;
-    }
-    if table.count > MOST_GRANULES {
-        return false;
-    }
-    if !valid(start.0) {
-        return false;
-    }
     let count = table.count;
-    valid(start.0 + count as i64 * length)
+    if table.degree > MOST_DEGREE
+        || !(SHORTEST_LENGTH..=LONGEST_LENGTH).contains(&length)
+        || !(1..=MOST_GRANULES).contains(&count)
+        || !valid(start.0)
+    {
+        return false;
+    }
+    valid(start.0 + i64::from(count) * length)
 }

@@ -7,39 +7,33 @@ ghost use Rattle.image.specs.Image.{image_of};
 ghost use Rattle.image.specs.Asked.{Holding, WholeTable, Fitting, Stores, Sealed};
 
 use crate::table::Table;
-use form::{fixed_byte, is_free};
+use form::Shape;
+use words::byte_of;
 use words::check::check_of;
-use words::{bits_of, byte_of};
 
-// A byte of one of the table's numbers.
+// A byte of one of the table's numbers: below 8 only byte 2, the degree.
 fn number_byte(table: Table, j: usize) -> u8
     requires { (is_number j ≡ true) × (table.degree ≤ most_degree) }
     ensures { result ≡ number_byte table j }
 {
-    if j == 2 {
-        let degree = table.degree;
-        return degree as u8;
+    let start = table.start;
+    match j {
+        ..8 => table.degree as u8,
+        8..16 => byte_of(start.0.cast_unsigned(), j - 8),
+        16..24 => byte_of(table.length.cast_unsigned(), j - 16),
+        _ => byte_of(u64::from(table.count), j - 24),
     }
-    if j < 16 {
-        let start = table.start;
-        return byte_of(bits_of(start.0), j - 8);
-    }
-    if j < 24 {
-        return byte_of(bits_of(table.length), j - 16);
-    }
-    let count = table.count;
-    byte_of(count as u64, j - 24)
 }
 
 // A byte of a coefficient.
-fn coefficient_byte(coefficients: &[i64], count: usize, degree: usize, k: usize, j: usize) -> u8
-    requires { Holding coefficients.now count degree k j }
-    ensures { result ≡ coefficient_byte degree (bits_of coefficients.now) k j }
+fn coefficient_byte(coefficients: &[i64], shape: Shape, k: usize, j: usize) -> u8
+    requires { Holding coefficients.now shape.count shape.degree k j }
+    ensures { result ≡ coefficient_byte shape.degree (bits_of coefficients.now) k j }
 {
-    let granule = 3 * (k - 1) + (j - 8) / 8 / 16;
-    let which = (j - 8) / 8 % 16;
-    let c = coefficients[granule * (degree + 1) + which];
-    byte_of(bits_of(c), (j - 8) % 8)
+    let number = (j - 8) / 8;
+    let granule = 3 * (k - 1) + number / 16;
+    let c = coefficients[granule * (shape.degree + 1) + number % 16];
+    byte_of(c.cast_unsigned(), (j - 8) % 8)
 }
 
 // Byte j of block k, below the check.
@@ -47,15 +41,17 @@ fn body_byte(table: Table, coefficients: &[i64], k: usize, j: usize) -> u8
     requires { WholeTable table coefficients.now × (k < blocks_of table.count) × (j < 508) }
     ensures { result ≡ body_byte table coefficients.now k j }
 {
-    let count = table.count as usize;
-    let degree = table.degree as usize;
-    if is_free(count, degree, k, j) {
-        if k == 0 {
-            return number_byte(table, j);
-        }
-        return coefficient_byte(coefficients, count, degree, k, j);
+    let shape = Shape {
+        count: table.count as usize,
+        degree: table.degree as usize,
+    };
+    if !shape.is_free(k, j) {
+        return shape.fixed_byte(k, j);
     }
-    fixed_byte(count, degree, k, j)
+    if k == 0 {
+        return number_byte(table, j);
+    }
+    coefficient_byte(coefficients, shape, k, j)
 }
 
 // Bytes 0 to 507 of block k.
@@ -64,9 +60,8 @@ fn put_body(image: &mut [u8], table: Table, coefficients: &[i64], k: usize)
     ensures { Stores (body_byte table coefficients.now k) (k * 512) 508
         image.old image.new }
 {
-    for j in 0..508 {
-        let byte = body_byte(table, coefficients, k, j);
-        image[k * 512 + j] = byte;
+    for (j, byte) in image[k * 512..k * 512 + 508].iter_mut().enumerate() {
+        *byte = body_byte(table, coefficients, k, j);
     }
 }
 
@@ -76,12 +71,8 @@ fn seal(image: &mut [u8], at: usize)
     ensures { Sealed at image.old image.new }
 {
     let check = check_of(image, at);
-    let a = check.a;
-    let b = check.b;
-    image[at + 508] = (a % 256) as u8;
-    image[at + 509] = (a / 256 % 256) as u8;
-    image[at + 510] = (b % 256) as u8;
-    image[at + 511] = (b / 256 % 256) as u8;
+    image[at + 508..at + 510].copy_from_slice(&check.a.to_le_bytes());
+    image[at + 510..at + 512].copy_from_slice(&check.b.to_le_bytes());
 }
 
 // All of block k.

@@ -14,25 +14,15 @@ pub struct Table {
     pub degree: u32,
 }
 
-fn degree_of(byte: u8) -> u32
-    ensures { result ≡ byte }
-{
-    byte as u32
-}
-
 // The numbers in block 0.
 pub fn table_of(bytes: &[u8]) -> Table
     requires { 512 ≤ length bytes.now }
     ensures { result ≡ table_of bytes.now }
 {
-    let start = number_at(bytes, 8);
-    let length = number_at(bytes, 16);
-    let count = quad_at(bytes, 24);
-    let degree = degree_of(bytes[2]);
     Table {
-        start: Tt(start),
-        length,
-        count,
-        degree,
+        start: Tt(number_at(bytes, 8)),
+        length: number_at(bytes, 16),
+        count: quad_at(bytes, 24),
+        degree: u32::from(bytes[2]),
     }
 }

@@ -3,6 +3,7 @@ ghost use Rattle.std.specs.Prelude.{◌≡◌};
 ghost use Rattle.image.specs.Image.{coefficient_at, stored_of, coefficients_stored};
 ghost use Rattle.image.specs.Asked.{Stored, StoredAt, Taking};
 
+use std::array;
 use words::number_at;
 
 // Coefficient m of a granule: 'from byte 8, 128 bytes a granule, sixteen 8-byte coefficients'.
@@ -21,12 +22,7 @@ pub fn stored(bytes: &[u8], granule: usize) -> [i64; 16]
     requires { Stored bytes.now granule }
     ensures { result ≡ stored_of bytes.now granule }
 {
-    let mut coefficients = [0i64; 16];
-    for m in 0..16 {
-        let c = coefficient(bytes, granule, m);
-        coefficients[m] = c;
-    }
-    coefficients
+    array::from_fn(|m| coefficient(bytes, granule, m))
 }
 
 // The coefficients of every granule, into a list of exactly that size.
@@ -35,12 +31,9 @@ pub fn take_coefficients(bytes: &[u8], count: usize, degree: usize, coefficients
     ensures { coefficients.new ≡ coefficients_stored
         bytes.now count degree }
 {
-    let mut i = 0;
-    while i < coefficients.len() {
+    for (i, c) in coefficients.iter_mut().enumerate() {
         let g = i / (degree + 1);
         let m = i % (degree + 1);
-        let c = coefficient(bytes, g, m);
-        coefficients[i] = c;
-        i += 1;
+        *c = coefficient(bytes, g, m);
     }
 }

@@ -5,11 +5,14 @@ use mathlib.Core.List.{List, [], ◌∷◌, map}
 use mathlib.Core.Logic.{⊎_elim}
 use Prim.Native.Nat.{ℕ, zero, suc, ◌+◌, ◌≤◌, ◌<◌, zero-le}
 use native.Mathlib.Nat.{le_of_suc-le-suc, not-suc-le-zero, eq-or-lt_of_le, le_refl, lt_irrefl}
+use native.Mathlib.Decide.{dec_lt}
 use native.Mathlib.Omega.{arith}
 use borrow.Author.Count.{below_more}
+use borrow.Author.Tests.{lt-ltb, le-ltb}
 use lib.ListN.{length, get_or, set, length-map, length-set}
 use lib.Seq.{ext_get_or, get_or-set_same, get_or-set_other}
-use Rattle.numbers.specs.Lowest.{lowest, every, up_to}
+use Rattle.std.specs.Prelude.{None, Some}
+use Rattle.numbers.specs.Lowest.{lowest, found, every, up_to}
 use Rattle.numbers.proofs.Flags.{never, both}
 
 suc_le : {n m : ℕ} → n ≤ m → suc n ≤ suc m
@@ -59,6 +62,34 @@ none_fails p n h = first_is p n n (record { within = le_refl n; before = h; foun
 pub all_pass : (p : ℕ → Bool) (n : ℕ) → n ≤ lowest p n → (k : ℕ) → k < n → p k ≡ true
 all_pass p n e k h = (lowest_first p n).before k (omega arith)
 
+-- a search that hands out the place, or none
+pub found_some : (p : ℕ → Bool) (n i : ℕ) → i < n → ((k : ℕ) → k < i → p k ≡ true) → p i ≡ false → Some i ≡ found p n
+unfolding found
+found_some p n i h before here =
+    let e : i ≡ lowest p n = first_is p n i (record { within = omega arith; before = before; found = λ _. here }) in
+    rw (← e, lt-ltb i n h)
+
+pub found_none : (p : ℕ → Bool) (n : ℕ) → ((k : ℕ) → k < n → p k ≡ true) → None ≡ found p n
+unfolding found
+found_none p n all = rw (← none_fails p n all, le-ltb n n (le_refl n))
+
+-- and what it tells
+pub found_told : (p : ℕ → Bool) (n i : ℕ) → Some i ≡ found p n → (i ≡ lowest p n) × (i < n)
+unfolding found
+found_told p n i e = go (dec_lt (lowest p n) n)
+  where
+    go : Dec (lowest p n < n) → (i ≡ lowest p n) × (i < n)
+    go (yes h) = let d : Some i ≡ Some (lowest p n) = rw (lt-ltb (lowest p n) n h) at e in let z : i ≡ lowest p n = cc in (z, rw z h)
+    go (no h) = let d : Some i ≡ None = rw (le-ltb (lowest p n) n (omega arith)) at e in absurd (cc)
+
+pub none_found : (p : ℕ → Bool) (n : ℕ) → None ≡ found p n → n ≤ lowest p n
+unfolding found
+none_found p n e = go (dec_lt (lowest p n) n)
+  where
+    go : Dec (lowest p n < n) → n ≤ lowest p n
+    go (yes h) = let d : None ≡ Some (lowest p n) = rw (lt-ltb (lowest p n) n h) at e in absurd (cc)
+    go (no h) = omega arith
+
 -- ---- every place
 pub every_is : (p : ℕ → Bool) (n : ℕ) → ((k : ℕ) → k < n → p k ≡ true) → every p n ≡ true
 unfolding every
@@ -79,6 +110,11 @@ every_not p n k h e = go (every p n) refl
     go true x = never (sym e ∙ every_at p n k x h)
     go false x = refl
 
+pub every_same : (p q : ℕ → Bool) (n : ℕ) → ((k : ℕ) → k < n → p k ≡ q k) → every p n ≡ every q n
+unfolding every
+every_same p q zero h = refl
+every_same p q (suc n) h = rw (h n (omega arith), every_same p q n (λ k l. h k (omega arith)))
+
 -- ---- a list by its places
 pub up_to_length : {A : Type 0} (f : ℕ → A) (n : ℕ) → length (up_to f n) ≡ n
 unfolding up_to
@@ -95,6 +131,12 @@ pub is_up_to : {A : Type 0} (f : ℕ → A) (n : ℕ) (d : A) (l : List A) → l
     → ((i : ℕ) → i < n → get_or l i d ≡ f i) → l ≡ up_to f n
 is_up_to f n d l e h =
     ext_get_or d l (up_to f n) (e ∙ sym (up_to_length f n)) (λ i k. h i (subst (λ (m : ℕ). i < m) e k) ∙ sym (up_to_at f n i d (subst (λ (m : ℕ). i < m) e k)))
+
+pub up_to_same : {A : Type 0} (f g : ℕ → A) (n : ℕ) → ((i : ℕ) → i < n → f i ≡ g i) → up_to f n ≡ up_to g n
+unfolding up_to
+up_to_same f g zero h = refl
+up_to_same f g (suc n) h =
+    rw (h 0 (suc_le zero-le), up_to_same (λ i. f (suc i)) (λ i. g (suc i)) n (λ i l. h (suc i) (suc_le l)))
 
 -- each place made of the same place of another list
 pub map_at : {A B : Type 0} (f : A → B) (l : List A) (d : A) (e : B) (i : ℕ) → i < length l

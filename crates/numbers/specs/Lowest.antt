@@ -1,11 +1,16 @@
 -- The lowest place at which a test fails, a test of every place, and the list of what stands at
 -- each place.
-use Rattle.std.specs.Prelude.{Bool, true, cond, ◌&&◌, List, [], ◌∷◌, ℕ, zero, suc}
+use Rattle.std.specs.Prelude.{Bool, true, cond, ◌&&◌, List, [], ◌∷◌, ℕ, zero, suc, ltb}
+use Rattle.std.specs.Prelude.{Option, None, Some}
 
 -- the lowest i below n with p i false, or n where there is none
 unfoldable pub lowest : (ℕ → Bool) → ℕ → ℕ
 lowest p zero = 0
 lowest p (suc n) = cond (p 0) (suc (lowest (λ i. p (suc i)) n)) 0
+
+-- that i, or none
+unfoldable pub found : (ℕ → Bool) → ℕ → Option ℕ
+found p n = cond (ltb (lowest p n) n) (Some (lowest p n)) None
 
 -- p holds of each number below n
 unfoldable pub every : (ℕ → Bool) → ℕ → Bool

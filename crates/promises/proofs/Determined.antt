@@ -150,12 +150,6 @@ pub joined : One granule.joined.Reads.Learnt
 joined = equation
 
 -- ---- words
-pub bits_of : One words.bits_of.Reads.Learnt
-bits_of = equation
-
-pub wide : One words.wide.Reads.Learnt
-wide = told (λ κs a r s p. p.0)
-
 pub quad_at : One words.quad_at.Reads.Learnt
 quad_at = equation
 
@@ -175,13 +169,13 @@ pub lowest_unchecked : One words.check.lowest_unchecked.Reads.Learnt
 lowest_unchecked = equation
 
 -- ---- form
-pub is_free : One form.is_free.Reads.Learnt
+pub is_free : One form.Shape.is_free.Reads.Learnt
 is_free = equation
 
-pub fixed_byte_lem : One form.fixed_byte.Reads.Learnt
+pub fixed_byte_lem : One form.Shape.fixed_byte.Reads.Learnt
 fixed_byte_lem = equation
 
-pub lowest_unformed : One form.lowest_unformed.Reads.Learnt
+pub lowest_unformed : One form.Shape.lowest_unformed.Reads.Learnt
 lowest_unformed = equation
 
 -- ---- image

@@ -1,11 +1,17 @@
 -- A number in bytes, and back. Assumes nothing.
 use mathlib.Core.Path.{◌≡◌, refl, sym, ◌∙◌, ap}
+use mathlib.Core.Bool.{Bool, true, false}
 use mathlib.Core.List.{List}
 use Prim.Native.Nat.{ℕ, zero, suc, ◌+◌, ◌*◌, ◌-◌, ◌/◌, ◌%◌, ◌^◌, ◌≤◌, ◌<◌}
-use native.Mathlib.Nat.{div-one, add-zero, div-div-eq-div-mul}
+use native.Mathlib.Nat.{div-one, add-zero, zero-add, div-div-eq-div-mul}
 use native.Mathlib.Decide.{dec_lt}
 use native.Mathlib.Omega.{arith}
+use borrow.Author.Tests.{eqb-true, eqb-false, eq-eqb}
+use lib.Dec.{eqb}
 use lib.ListN.{get_or}
+use Rattle.std.specs.Int.{w64, from_le_bytes}
+use Rattle.numbers.specs.Lowest.{every}
+use Rattle.numbers.proofs.Places.{every_is, every_at}
 use Rattle.words.specs.Words.{byte_of, quad_at, word_at, from}
 
 -- ---- the bytes of a number make it up: two bytes at a time
@@ -155,18 +161,52 @@ module _ (b : List ℕ) (small : (i : ℕ) → get_or b i 0 < 256) where
       no : (n : ℕ) {A : Type 0} → n < 4 → 4 ≤ n → A
       no n l h = let z : ⊥ = omega arith in absurd z
 
--- eight bytes that make up 0 are all 0, and so are four
-pub zero_word : (b : List ℕ) (at : ℕ) → word_at b at ≡ 0 → (u : ℕ) → u < 8 → from b at u ≡ 0
-zero_word b at e =
-    pick8 (λ u. from b at u ≡ 0) (ap (λ x. get_or b x 0) (add-zero at) ∙ omega arith) (omega arith) (omega arith) (omega arith) (omega arith) (omega arith)
-    (omega arith) (omega arith)
+-- ---- eight bytes are those of a list exactly where both make up one number
+module _ (b : List ℕ) (at : ℕ) (l : List ℕ) (small : (i : ℕ) → get_or b i 0 < 256)
+    (few : (i : ℕ) → get_or l i 0 < 256) where
+  abbrev is_same : ℕ → Bool
+  is_same j = eqb (get_or b (at + j) 0) (get_or l j 0)
 
-pub zero_quad : (b : List ℕ) (at : ℕ) → quad_at b at ≡ 0 → (u : ℕ) → u < 4 → from b at u ≡ 0
-zero_quad b at e zero l = ap (λ x. get_or b x 0) (add-zero at) ∙ omega arith
-zero_quad b at e (suc zero) l = omega arith
-zero_quad b at e (suc (suc zero)) l = omega arith
-zero_quad b at e (suc (suc (suc zero))) l = omega arith
-zero_quad b at e (suc (suc (suc (suc u)))) l = let z : ⊥ = omega arith in absurd z
+  pub same_word : (x y : ℕ) → x ≡ word_at b at → y ≡ from_le_bytes w64 l → eqb x y ≡ every is_same 8
+  same_word x y p q = go (eqb x y) refl (every is_same 8) refl
+    where
+      z : y ≡ word_at l 0
+      z = q ∙ regroup (get_or l 0 0) (get_or l 1 0) (get_or l 2 0) (get_or l 3 0) (get_or l 4 0) (get_or l 5 0) (get_or l 6 0) (get_or l 7 0)
+        where
+          regroup : (a c d e f g h i : ℕ)
+              → a + c * 256 + d * 65536 + e * 16777216 + f * 4294967296
+              + g * 1099511627776 + h * 281474976710656 + i * 72057594037927936
+              ≡ a + 256 * c + 65536 * d + 16777216 * e + 4294967296 * f
+              + 1099511627776 * g + 281474976710656 * h + 72057594037927936 * i
+          regroup a c d e f g h i = omega arith
+
+      each : every is_same 8 ≡ true → (u : ℕ) → u < 8 → get_or b (at + u) 0 ≡ get_or l u 0
+      each e u h = eqb-true _ _ (every_at is_same 8 u e h)
+
+      whole : every is_same 8 ≡ true → word_at b at ≡ word_at l 0
+      whole e =
+          let f = ap (λ i. get_or b i 0) (sym (add-zero at)) ∙ each e 0 (omega arith) in
+          rw (
+            f,
+            each e 1 (omega arith),
+            each e 2 (omega arith),
+            each e 3 (omega arith),
+            each e 4 (omega arith),
+            each e 5 (omega arith),
+            each e 6 (omega arith),
+            each e 7 (omega arith),
+          )
+
+      go : (v : Bool) → eqb x y ≡ v → (r : Bool) → every is_same 8 ≡ r → v ≡ every is_same 8
+      go true e r d =
+          sym
+          (every_is is_same 8
+          (λ u h.
+          eq-eqb _ _
+          (word_byte b small at u h ∙ ap (λ n. byte_of n u) (sym p ∙ eqb-true x y e ∙ z) ∙ sym (word_byte l few 0 u h)
+          ∙ ap (λ i. get_or l i 0) (zero-add u))))
+      go false e true d = absurd (eqb-false x y e (p ∙ whole d ∙ sym z))
+      go false e false d = sym d
 
 -- past m bytes that are 0, n more
 pub zero_more : (b : List ℕ) (at m n : ℕ) → ((u : ℕ) → u < m → from b at u ≡ 0)

@@ -1,5 +1,6 @@
 -- The laws of numbers in bytes: which one to reach for when.
 --
--- The sums of the check: `Sums`. A number in bytes and back: `Digits`.
+-- Bytes in chunks: `Chunks`. The sums of the check: `Sums`. A number in bytes and back: `Digits`.
+pub mod Chunks
 pub mod Sums
 pub mod Digits

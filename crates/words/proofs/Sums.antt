@@ -1,14 +1,39 @@
 -- The sums of the check, a word more, and of bytes that agree. Assumes nothing.
 use mathlib.Core.Path.{◌≡◌, refl, ◌∙◌, ap}
-use mathlib.Core.Bool.{true, false}
-use mathlib.Core.List.{List}
+use mathlib.Core.Bool.{true, ◌&&◌}
+use mathlib.Core.List.{List, []}
 use Prim.Native.Nat.{ℕ, zero, suc, ◌+◌, ◌*◌, ◌-◌, ◌/◌, ◌%◌, ◌≤◌, ◌<◌}
+use native.Mathlib.Nat.{add-zero}
 use native.Mathlib.Numerals.{add-one}
 use native.Mathlib.Omega.{arith}
-use borrow.Author.Tests.{eq-eqb, ne_eqb}
-use lib.ListN.{get_or}
-use Rattle.words.specs.Words.{quad_at, from}
+use borrow.Author.Tests.{eq-eqb}
+use lib.Dec.{eqb}
+use lib.ListN.{length, get_or, take, drop}
+use lib.Seq.{get_or-take, get_or-drop}
+use Rattle.std.specs.Int.{w32, from_le_bytes}
+use Rattle.std.specs.Simd.{first_chunks}
+use Rattle.words.proofs.Chunks.{chunk_byte}
+use Rattle.words.specs.Words.{pair_at, quad_at, from}
 use Rattle.words.specs.Check.{word_of, sum_a, sum_b, check_a, check_b, is_checked}
+
+-- ---- the code goes over four bytes at a time
+-- the number in them
+module _ (b : List ℕ) (at i : ℕ) (rows : List (List ℕ)) (h : i < 127) (l : i < length rows)
+    (many : length rows ≡ length (take (at + 508 - at) (drop at b)) / 4)
+    (e : rows ≡ first_chunks 4 (length (take (at + 508 - at) (drop at b)) / 4) (take (at + 508 - at) (drop at b))) where
+  row_byte : (j : ℕ) → j < 4 → get_or (get_or rows i []) j 0 ≡ get_or b (at + 4 * i + j) 0
+  row_byte j d =
+      let p : at + (4 * i + j) ≡ at + 4 * i + j = omega arith in
+      ap (λ r. get_or (get_or r i []) j 0) e
+      ∙ chunk_byte 4 (length (take (at + 508 - at) (drop at b)) / 4) i j (take (at + 508 - at) (drop at b)) (rw many at l) d
+      ∙ get_or-take (at + 508 - at) (drop at b) (4 * i + j) 0 (omega arith)
+      ∙ get_or-drop at b (4 * i + j) 0
+      ∙ ap (λ x. get_or b x 0) p
+
+  pub row_quad : from_le_bytes w32 (get_or rows i []) ≡ quad_at b (at + 4 * i)
+  row_quad =
+      let z = row_byte 0 (omega arith) ∙ ap (λ x. get_or b x 0) (add-zero (at + 4 * i)) in
+      rw (z, row_byte 1 (omega arith), row_byte 2 (omega arith), row_byte 3 (omega arith)) (omega arith)
 
 -- words 2i and 2i + 1, as the code finds them in four bytes
 module _ (b : List ℕ) (at i q : ℕ) (small : (j : ℕ) → get_or b j 0 < 256) (e : q ≡ quad_at b (at + 4 * i)) where
@@ -82,16 +107,16 @@ check_a_same f g e = ap (λ (n : ℕ). n % 65535) (sum_a_same f g 254 508 (omega
 pub check_b_same : (f g : ℕ → ℕ) → ((j : ℕ) → j < 508 → f j ≡ g j) → check_b f ≡ check_b g
 check_b_same f g e = ap (λ (n : ℕ). n % 65535) (sum_b_same f g 254 508 (omega arith) e)
 
--- ---- what two comparisons show
-module _ (f : ℕ → ℕ) (a b x y : ℕ) (ea : a ≡ check_a f) (eb : b ≡ check_b f) (ex : x ≡ f 508 + 256 * f 509) where
-  pub wrong_a : (x ≡ a → ⊥) → false ≡ is_checked f
-  unfolding is_checked
-  wrong_a n = rw (← ex, ← ea, ne_eqb x a n)
+-- ---- the check words held are those of the bytes, as one test
+pub is_checked_as : (b : List ℕ) (at x y a c : ℕ) → x ≡ pair_at b (at + 508) → y ≡ pair_at b (at + 510)
+    → a ≡ check_a (from b at) → c ≡ check_b (from b at)
+    → (eqb x a && eqb y c) ≡ is_checked (from b at)
+unfolding is_checked
+is_checked_as b at x y a c ex ey ea ec =
+    let p : at + 508 + 1 ≡ at + 509 = omega arith in
+    let q : at + 510 + 1 ≡ at + 511 = omega arith in
+    rw (ex, ey, ea, ec, p, q)
 
-  pub wrong_b : x ≡ a → y ≡ f 510 + 256 * f 511 → (y ≡ b → ⊥) → false ≡ is_checked f
-  unfolding is_checked
-  wrong_b e ey n = rw (← ex, ← ea, eq-eqb x a e, ← ey, ← eb, ne_eqb y b n)
-
-  pub right_ab : x ≡ a → y ≡ f 510 + 256 * f 511 → y ≡ b → true ≡ is_checked f
-  unfolding is_checked
-  right_ab e ey d = rw (← ex, ← ea, eq-eqb x a e, ← ey, ← eb, eq-eqb y b d)
+pub right_ab : (f : ℕ → ℕ) → f 508 + 256 * f 509 ≡ check_a f → f 510 + 256 * f 511 ≡ check_b f → true ≡ is_checked f
+unfolding is_checked
+right_ab f a b = rw (eq-eqb _ _ a, eq-eqb _ _ b)

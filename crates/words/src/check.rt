@@ -1,17 +1,16 @@
 // 'Check: bytes 0..507 as 254 words of 16 bits, w_0 first.'
-ghost use Rattle.std.specs.Prelude.{◌≡◌, ◌+◌, ◌*◌, ◌≤◌, length};
+ghost use Rattle.std.specs.Prelude.{◌≡◌, ◌+◌, ◌/◌, ◌≤◌, length};
 ghost use Rattle.words.specs.Words.{block, from};
 ghost use Rattle.words.specs.Check.{check_a, check_b, is_checked};
-ghost use Rattle.numbers.specs.Lowest.{lowest};
-ghost use Rattle.words.specs.Asked.{Blocks};
+ghost use Rattle.numbers.specs.Lowest.{found};
 
-use crate::{pair_at, quad_at};
+use crate::pair_at;
 
 // The two check words of a block.
-#[derive(Clone, Copy)]
+#[derive(Clone, Copy, PartialEq, Eq, Debug)]
 pub struct Check {
-    pub a: u64,
-    pub b: u64,
+    pub a: u16,
+    pub b: u16,
 }
 
 // 'A = sum of w_i mod 65535, B = sum of (254−i)·w_i mod 65535', of the block that starts at `at`:
@@ -26,8 +25,9 @@ pub fn check_of(bytes: &[u8], at: usize) -> Check
     let mut second: u32 = 0;
     let mut weighted: u32 = 0;
     let mut weight: u32 = 254;
-    for i in 0..127 {
-        let two = quad_at(bytes, at + 4 * i);
+    let (pairs, _) = bytes[at..at + 508].as_chunks();
+    for pair in pairs {
+        let two = u32::from_le_bytes(*pair);
         let low = two % 65_536;
         let high = two / 65_536;
         plain += low + high;
@@ -36,8 +36,8 @@ pub fn check_of(bytes: &[u8], at: usize) -> Check
         weight -= 2;
     }
     Check {
-        a: (plain % 65_535) as u64,
-        b: ((weighted - second) % 65_535) as u64,
+        a: (plain % 65_535) as u16,
+        b: ((weighted - second) % 65_535) as u16,
     }
 }
 
@@ -46,27 +46,22 @@ fn check_right(bytes: &[u8], at: usize) -> bool
     requires { at + 512 ≤ length bytes.now }
     ensures { result ≡ is_checked (from bytes.now at) }
 {
-    let check = check_of(bytes, at);
-    if pair_at(bytes, at + 508) != check.a {
-        return false;
-    }
-    if pair_at(bytes, at + 510) != check.b {
-        return false;
-    }
-    true
+    let held = Check {
+        a: pair_at(bytes, at + 508),
+        b: pair_at(bytes, at + 510),
+    };
+    held == check_of(bytes, at)
 }
 
-// The lowest block whose check is wrong, or the number of blocks where every check is right.
-pub fn lowest_unchecked(bytes: &[u8], blocks: usize) -> usize
-    requires { Blocks bytes.now blocks }
-    ensures { result ≡ lowest (λ k. is_checked (block bytes.now k)) blocks }
+// The lowest block whose check is wrong.
+pub fn lowest_unchecked(bytes: &[u8]) -> Option<usize>
+    ensures { result
+        ≡ found (λ k. is_checked (block bytes.now k)) (length bytes.now / 512) }
 {
-    let mut k = 0;
-    while k < blocks {
+    for k in 0..bytes.len() / 512 {
         if !check_right(bytes, k * 512) {
-            return k;
+            return Some(k);
         }
-        k += 1;
     }
-    k
+    None
 }

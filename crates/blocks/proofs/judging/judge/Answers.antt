@@ -1,14 +1,14 @@
 -- `blocks::judging::judge` meets its contract: a test passed at a time, in their order. Assumes
 -- nothing.
-use Rattle.std.specs.Prelude.{Err}
-use Prim.Native.Nat.{ℕ, ◌*◌, ◌≤◌, zero-le}
+use Rattle.std.specs.Prelude.{Err, Some}
+use Prim.Native.Nat.{ℕ, ◌*◌, zero-le}
 use Rattle.granules.specs.Answers.{tested_stored}
 use Rattle.image.proofs.Bounding.{bounds_told}
 use Rattle.blocks.proofs.Telling.{tested_is}
 use Rattle.blocks.proofs.Past.{whole_told, from14, from12, from13, from_first, refused10, past10}
 use Rattle.blocks.proofs.Past.{refused11, past11, past_first, refused13_bound, refused13_blocks}
-use Rattle.blocks.proofs.Past.{past13, refused12, past12, formed12, search_for}
-use Rattle.numbers.proofs.Verdicts.{one_go}
+use Rattle.blocks.proofs.Past.{past13, refused12, past12, formed12, search_for, first_unformed}
+use Rattle.blocks.proofs.Past.{first_formed, refused12_first}
 use Rattle.image.specs.Bounds.{is_bounded}
 use Rattle.blocks.specs.Answers.{judged_tested}
 use Rattle.blocks.specs.Judging.{judged_by, is_whole, table_tests, judged}
@@ -24,10 +24,9 @@ use Rattle.scales.proofs.PassedOn.{passed_on}
 use mathlib.Core.Path.{◌≡◌, refl, sym, ◌∙◌, ap}
 use native.Mathlib.Omega.{arith}
 use Rattle.blocks.proofs.judging.judge.Goals as goal
-use Rattle.blocks.proofs.judging.judge.Goals.{After-test_stored, After-bounded}
-use Rattle.blocks.proofs.judging.judge.Goals.{After-lowest_unformed, Else-blocks-count}
-use Rattle.blocks.proofs.judging.judge.Goals.{Else-not-bounded, Else-not-whole}
-use Rattle.blocks.proofs.judging.judge.Goals.{Else-unchecked-blocks}
+use Rattle.blocks.proofs.judging.judge.Goals.{After-test_stored, After-bounded, Else-blocks-count}
+use Rattle.blocks.proofs.judging.judge.Goals.{Else-is_some, Else-not-bounded, Else-not-whole}
+use Rattle.blocks.proofs.judging.judge.Goals.{In_default}
 
 -- what is judged, by the tests of the table in the bytes
 judged_is : (b : List ℕ) → judged_by (table_tests b (table_of b)) (table_of b) ≡ judged b
@@ -37,20 +36,18 @@ judged_is b = refl
 is_whole_lem : (c : Else-not-whole) → is_whole (length c.args.bytes.now) ≡ true
 is_whole_lem c = sym c.whole.ensures ∙ c.if-not-whole.false
 
-by_first : (c : Else-unchecked-blocks) (t : Table) → judged_by (table_tests c.args.bytes.now t) t
+by_first : (c : In_default) (t : Table) → judged_by (table_tests c.args.bytes.now t) t
     ≡ judged_by (from_first c.args.bytes.now t) t
 by_first c t =
-    past11 c.args.bytes.now t (past10 c.args.bytes.now t (is_whole_lem (goal.at.Else-unchecked-blocks c).Else-not-whole)) _
-    c.lowest_unchecked-unchecked.ensures c.if-unchecked-blocks.false
+    past11 c.args.bytes.now t (past10 c.args.bytes.now t (is_whole_lem (goal.at.In_default c).Else-not-whole))
+    (sym c.in_default.is ∙ c.lowest_unchecked.ensures)
 
--- block 0 is looked at alone, so that it is formed where the lowest that is not is 1
-first_formed : (c : After-lowest_unformed) → 1 ≤ c.lowest_unformed.result → is_formed 0 0 0 (block c.args.bytes.now 0)
-    ≡ true
-first_formed c h = one_go (λ k. is_formed 0 0 k (block c.args.bytes.now k)) _ c.lowest_unformed.ensures h
+first_is : (c : Else-is_some) → is_formed 0 0 0 (block c.args.bytes.now 0) ≡ true
+first_is c = first_formed (λ k. is_formed 0 0 k (block c.args.bytes.now k)) _ c.lowest_unformed.ensures (sym c.is_some.ensures ∙ c.if-is_some.false)
 
-by13 : (c : After-lowest_unformed) (t : Table) → 1 ≤ c.lowest_unformed.result
-    → judged_by (table_tests c.args.bytes.now t) t ≡ judged_by (from13 c.args.bytes.now t) t
-by13 c t h = past_first c.args.bytes.now t (by_first (goal.at.After-lowest_unformed c).Else-unchecked-blocks t) (first_formed c h)
+by13 : (c : Else-is_some) (t : Table) → judged_by (table_tests c.args.bytes.now t) t
+    ≡ judged_by (from13 c.args.bytes.now t) t
+by13 c t = past_first c.args.bytes.now t (by_first (goal.at.Else-is_some c).In_default t) (first_is c)
 
 -- the answer over the table in hand is that over the bytes' own
 same_judged : (c : After-bounded)
@@ -65,7 +62,7 @@ by12 : (c : Else-blocks-count)
     → judged_by (table_tests c.args.bytes.now c.table_of-table.result) c.table_of-table.result
     ≡ judged_by (from12 c.args.bytes.now c.table_of-table.result) c.table_of-table.result
 by12 c =
-    past13 c.args.bytes.now c.table_of-table.result (by13 (goal.at.Else-blocks-count c).After-lowest_unformed c.table_of-table.result (omega arith))
+    past13 c.args.bytes.now c.table_of-table.result (by13 (goal.at.Else-blocks-count c).Else-is_some c.table_of-table.result)
     (is_bounded_lem (goal.at.Else-blocks-count c).Else-not-bounded) c.if-blocks-count.false
 
 pub returns-then-not-whole : goal.returns-then-not-whole
@@ -73,27 +70,31 @@ returns-then-not-whole c =
     let b = c.args.bytes.now in
     c.refused.ensures ∙ refused10 b (table_of b) (sym c.whole.ensures ∙ c.if-not-whole.true) ∙ judged_is b
 
-pub lowest_unchecked-unchecked-requires : goal.lowest_unchecked-unchecked-requires
-lowest_unchecked-unchecked-requires c = let w = whole_told _ (is_whole_lem c) in record { few = w.few; long = w.blocks }
-
-pub returns-then-unchecked-blocks : goal.returns-then-unchecked-blocks
-returns-then-unchecked-blocks c =
+pub returns-in-Some : goal.returns-in-Some
+returns-in-Some c =
     let b = c.args.bytes.now in
-    c.refused-then-unchecked-blocks.ensures
-    ∙ refused11 b (table_of b) (past10 b (table_of b) (is_whole_lem (goal.at.returns-then-unchecked-blocks c).Else-not-whole)) _
-    c.lowest_unchecked-unchecked.ensures c.if-unchecked-blocks.true
+    c.refused-in-Some.ensures
+    ∙ refused11 b (table_of b) (past10 b (table_of b) (is_whole_lem (goal.at.returns-in-Some c).Else-not-whole)) _
+    (sym c.in-Some.is ∙ c.lowest_unchecked.ensures)
     ∙ judged_is b
 
 pub lowest_unformed-requires : goal.lowest_unformed-requires
 lowest_unformed-requires c =
     let w = whole_told _ (is_whole_lem (goal.at.lowest_unformed-requires c).Else-not-whole) in
     record {
-      bounds = record { granules = zero-le; degree = zero-le };
       long = omega (arith, w.blocks, w.some);
       within = omega arith;
       start = zero-le;
       before = below_none _;
     }
+
+pub returns-then-is_some : goal.returns-then-is_some
+returns-then-is_some c =
+    let b = c.args.bytes.now in
+    c.refused-then-is_some.ensures
+    ∙ refused12_first b (table_of b) (by_first (goal.at.returns-then-is_some c).In_default (table_of b))
+    (first_unformed (λ k. is_formed 0 0 k (block b k)) _ c.lowest_unformed.ensures (sym c.is_some.ensures ∙ c.if-is_some.true))
+    ∙ judged_is b
 
 pub table_of-table-requires : goal.table_of-table-requires
 table_of-table-requires c = let w = whole_told _ (is_whole_lem (goal.at.table_of-table-requires c).Else-not-whole) in omega (arith, w.blocks, w.some)
@@ -102,22 +103,25 @@ pub returns-then-not-bounded : goal.returns-then-not-bounded
 returns-then-not-bounded c =
     c.refused-then-not-bounded.ensures
     ∙ refused13_bound c.args.bytes.now c.table_of-table.result
-    (by13 (goal.at.returns-then-not-bounded c).After-lowest_unformed c.table_of-table.result (omega arith)) (sym c.bounded.ensures ∙ c.if-not-bounded.true)
+    (by13 (goal.at.returns-then-not-bounded c).Else-is_some c.table_of-table.result) (sym c.bounded.ensures ∙ c.if-not-bounded.true)
     ∙ same_judged (goal.at.returns-then-not-bounded c).After-bounded
 
 pub returns-then-blocks-count : goal.returns-then-blocks-count
 returns-then-blocks-count c =
     c.refused-then-blocks-count.ensures
     ∙ refused13_blocks c.args.bytes.now c.table_of-table.result
-    (by13 (goal.at.returns-then-blocks-count c).After-lowest_unformed c.table_of-table.result (omega arith))
+    (by13 (goal.at.returns-then-blocks-count c).Else-is_some c.table_of-table.result)
     (is_bounded_lem (goal.at.returns-then-blocks-count c).Else-not-bounded) c.if-blocks-count.true
     ∙ same_judged (goal.at.returns-then-blocks-count c).After-bounded
 
-pub lowest_unformed-unformed-requires : goal.lowest_unformed-unformed-requires
-lowest_unformed-unformed-requires c =
-    search_for c.args.bytes.now c.table_of-table.result (whole_told _ (is_whole_lem (goal.at.lowest_unformed-unformed-requires c).Else-not-whole))
-    (bounds_told c.table_of-table.result (is_bounded_lem (goal.at.lowest_unformed-unformed-requires c).Else-not-bounded))
-    c.if-blocks-count.false (first_formed (goal.at.lowest_unformed-unformed-requires c).After-lowest_unformed (omega arith))
+pub invariant_of-shape : goal.invariant_of-shape
+invariant_of-shape c =
+    record { few = (bounds_told c.table_of-table.result (is_bounded_lem (goal.at.invariant_of-shape c).Else-not-bounded)).few }
+
+pub lowest_unformed-requires-2 : goal.lowest_unformed-requires-2
+lowest_unformed-requires-2 c =
+    search_for c.args.bytes.now c.table_of-table.result (whole_told _ (is_whole_lem (goal.at.lowest_unformed-requires-2 c).Else-not-whole))
+    c.if-blocks-count.false (first_is (goal.at.lowest_unformed-requires-2 c).Else-is_some)
 
 pub test_stored-requires : goal.test_stored-requires
 test_stored-requires c =
@@ -125,7 +129,9 @@ test_stored-requires c =
     record {
       bounds = bounds_told c.table_of-table.result (is_bounded_lem (goal.at.test_stored-requires c).Else-not-bounded);
       long = w.blocks ∙ ap (λ (k : ℕ). k * 512) c.if-blocks-count.false;
-      formed = formed12 c.args.bytes.now c.table_of-table.result _ c.lowest_unformed-unformed.ensures (omega arith) c.if-blocks-count.false;
+      formed =
+          formed12 c.args.bytes.now c.table_of-table.result (sym c.in_default-lowest_unformed.is ∙ c.lowest_unformed-2.ensures)
+          c.if-blocks-count.false;
     }
 
 -- what the tests of the coefficients tell is what the bytes get
@@ -134,7 +140,8 @@ unfolding tested_stored
 by_granules c =
     ap (judged_tested c.table_of-table.result) c.test_stored.ensures
     ∙ tested_is (from14 c.args.bytes.now c.table_of-table.result) c.table_of-table.result
-    ∙ sym (past12 c.args.bytes.now c.table_of-table.result (by12 (goal.at.After-test_stored c).Else-blocks-count) _ c.lowest_unformed-unformed.ensures (omega arith))
+    ∙ sym (past12 c.args.bytes.now c.table_of-table.result (by12 (goal.at.After-test_stored c).Else-blocks-count)
+    (sym c.in_default-lowest_unformed.is ∙ c.lowest_unformed-2.ensures))
     ∙ same_judged (goal.at.After-test_stored c).After-bounded
 
 pub returns-in_err-test_stored : goal.returns-in_err-test_stored
@@ -149,9 +156,9 @@ returns c =
     sym (ap (judged_tested c.table_of-table.result) c.in_ok-test_stored.was)
     ∙ by_granules (goal.at.returns c).After-test_stored
 
-pub returns-then-unformed-blocks : goal.returns-then-unformed-blocks
-returns-then-unformed-blocks c =
-    c.refused-then-unformed-blocks.ensures
-    ∙ refused12 c.args.bytes.now c.table_of-table.result (by12 (goal.at.returns-then-unformed-blocks c).Else-blocks-count) _
-    c.lowest_unformed-unformed.ensures (omega arith)
-    ∙ same_judged (goal.at.returns-then-unformed-blocks c).After-bounded
+pub returns-in-Some-lowest_unformed : goal.returns-in-Some-lowest_unformed
+returns-in-Some-lowest_unformed c =
+    c.refused-in-Some-lowest_unformed.ensures
+    ∙ refused12 c.args.bytes.now c.table_of-table.result (by12 (goal.at.returns-in-Some-lowest_unformed c).Else-blocks-count) _
+    (sym c.in-Some-lowest_unformed.is ∙ c.lowest_unformed-2.ensures)
+    ∙ same_judged (goal.at.returns-in-Some-lowest_unformed c).After-bounded

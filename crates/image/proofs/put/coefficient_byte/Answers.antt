@@ -18,34 +18,33 @@ use native.Mathlib.Omega.{arith}
 use Rattle.image.proofs.put.coefficient_byte.Goals as goal
 use Rattle.image.proofs.put.coefficient_byte.Goals.{Start}
 
-slot : (c : Start) → Slot c.args.count c.args.degree c.args.k c.args.j
+slot : (c : Start) → Slot c.args.shape.count c.args.shape.degree c.args.k c.args.j
 slot c = slot_told _ _ _ _ c.requires.coefficient
 
 at : (c : Start)
-    → granule_at c.args.k c.args.j * (c.args.degree + 1) + which_at c.args.j
-    < c.args.count * (c.args.degree + 1)
+    → granule_at c.args.k c.args.j * (c.args.shape.degree + 1) + which_at c.args.j
+    < c.args.shape.count * (c.args.shape.degree + 1)
 at c = index _ _ _ _ (slot c).granule (slot c).which
 
-all : (c : Start) → c.args.count * (c.args.degree + 1) ≤ most_coefficients
-all c = room c.args.count c.args.degree c.requires.within.bounds
+all : (c : Start) → c.args.shape.count * (c.args.shape.degree + 1) ≤ most_coefficients
+all c = room c.args.shape.count c.args.shape.degree c.args.shape.few
 
-pub overflow_sub-granule-2 : goal.overflow_sub-granule-2
-overflow_sub-granule-2 c = (slot c).low
-
-pub overflow_sub-which : goal.overflow_sub-which
-overflow_sub-which c = (slot c).low
+pub overflow_sub-number : goal.overflow_sub-number
+overflow_sub-number c = (slot c).low
 
 pub overflow_mul-c : goal.overflow_mul-c
-overflow_mul-c c = let a = at c in let b = all c in omega arith
+overflow_mul-c c = let a = at (goal.at.overflow_mul-c c).Start in let b = all (goal.at.overflow_mul-c c).Start in omega arith
 
 pub overflow_add-c-2 : goal.overflow_add-c-2
-overflow_add-c-2 c = let a = at c in let b = all c in omega arith
+overflow_add-c-2 c = let a = at (goal.at.overflow_add-c-2 c).Start in let b = all (goal.at.overflow_add-c-2 c).Start in omega arith
 
 pub offset_bounds-coefficients-granule : goal.offset_bounds-coefficients-granule
-offset_bounds-coefficients-granule c = let a = at c in let b = all c in omega arith
+offset_bounds-coefficients-granule c =
+    let a = at (goal.at.offset_bounds-coefficients-granule c).Start in
+    let b = all (goal.at.offset_bounds-coefficients-granule c).Start in omega arith
 
 pub bounds-coefficients-granule : goal.bounds-coefficients-granule
-bounds-coefficients-granule c = rw c.requires.coefficients (at c)
+bounds-coefficients-granule c = rw c.requires.coefficients (at (goal.at.bounds-coefficients-granule c).Start)
 
 pub overflow_sub-j : goal.overflow_sub-j
 overflow_sub-j c = (slot (goal.at.overflow_sub-j c).Start).low
@@ -53,5 +52,5 @@ overflow_sub-j c = (slot (goal.at.overflow_sub-j c).Start).low
 pub returns : goal.returns
 unfolding coefficient_byte
 returns c =
-    let z = get_or c.args.coefficients.now (granule_at c.args.k c.args.j * (c.args.degree + 1) + which_at c.args.j) (pos 0) in
-    c.byte_of.ensures ∙ ap (λ x. byte_of x ((c.args.j - 8) % 8)) (c.bits_of.ensures ∙ ap (of_z w64) (to_z-of_z w64 z (search rules)))
+    let z = get_or c.args.coefficients.now (granule_at c.args.k c.args.j * (c.args.shape.degree + 1) + which_at c.args.j) (pos 0) in
+    c.byte_of.ensures ∙ ap (λ x. byte_of x ((c.args.j - 8) % 8)) (c.cast_unsigned.ensures ∙ ap (of_z w64) (to_z-of_z w64 z (search rules)))

@@ -1,45 +1,35 @@
-use Prim.Native.Nat.{zero-le}
-use Rattle.numbers.proofs.Places.{is_up_to, written_more}
+-- `image::take::stored` meets its contract: each call gives the coefficient stored there. Assumes
+-- nothing.
+use Prim.Native.Nat.{ℕ, zero, suc, ◌+◌, ◌<◌}
 use Rattle.image.specs.Image.{coefficient_at, stored_of}
-use borrow.Author.Count.{below_none}
+use Rattle.numbers.proofs.Places.{is_up_to}
+use Rattle.std.specs.Array.{IsFromFnResultFrom}
+use borrow.Author.Rules.{rules}
+use denote.Param.Members.{Mut, Called}
 use lib.IntN.{pos}
-use lib.ListN.{length-set}
-use mathlib.Core.Path.{refl, ◌∙◌}
-use mir.Syntax.{w64}
-use mir.ValLaws.{to_z-of_z}
+use lib.ListN.{get_or}
+use mathlib.Core.List.{List}
+use mathlib.Core.Path.{◌≡◌, ◌∙◌, sym, ap, subst}
+use native.Mathlib.Nat.{add-zero, zero-add, le_of_suc-le-suc, not-suc-le-zero}
 use native.Mathlib.Omega.{arith}
 use Rattle.image.proofs.take.stored.Goals as goal
 
-pub loop-m-init : goal.loop-m-init
-loop-m-init c = (zero-le, refl, below_none _)
+module _ {F B : Type 0} (g : Mut F (ℕ × Unit {0}) B) (of : ℕ → B) (ys : List B) (d : B) (f : F)
+    (each : (i : ℕ) (y : B) (q : F) → Called g f (i, tt) y q → (q ≡ f) × (y ≡ of i)) where
+  made : (n i : ℕ) → IsFromFnResultFrom g f ys i n → (k : ℕ) → k < n → get_or ys (i + k) d ≡ of (i + k)
+  made zero i m k h = absurd (not-suc-le-zero h)
+  made (suc n) i m zero h =
+      ap (λ x. get_or ys x d) (add-zero i) ∙ m.2.1 d ∙ (each i m.1 m.0 m.3).1 ∙ ap of (sym (add-zero i))
+  made (suc n) i m (suc k) h =
+      let e : i + 1 + k ≡ i + suc k = omega arith in
+      let P : F → Type 0 = λ p. IsFromFnResultFrom g p ys (i + 1) n in
+      rw e at (made n (i + 1) (subst P (each i m.1 m.0 m.3).0 m.4) k (le_of_suc-le-suc h))
 
-pub coefficient-c-requires : goal.coefficient-c-requires
-coefficient-c-requires c = record { granule = c.requires; which = omega arith }
-
-pub offset_bounds-coefficients-m : goal.offset_bounds-coefficients-m
-offset_bounds-coefficients-m c = omega arith
-
-pub bounds-coefficients-m : goal.bounds-coefficients-m
-bounds-coefficients-m c = omega arith
-
-pub overflow_step-m : goal.overflow_step-m
-overflow_step-m c = omega arith
-
-pub loop-m-smaller : goal.loop-m-smaller
-loop-m-smaller c = omega arith
-
-pub loop-m-preserved : goal.loop-m-preserved
-loop-m-preserved c =
-    let l = c.loop-m in
-    let z = c.coefficient-c.result in (
-      omega arith,
-      simp length-set l.invariant.1,
-      written_more l.coefficients l.m _ (pos 0) (λ j. coefficient_at c.args.bytes.now c.args.granule j) (omega arith) l.invariant.2
-          (to_z-of_z w64 z (record { sfits = c.coefficient-c.type_inv }) ∙ c.coefficient-c.ensures),
-    )
+  all_made : (n : ℕ) → IsFromFnResultFrom g f ys 0 n → (k : ℕ) → k < n → get_or ys k d ≡ of k
+  all_made n m k h = rw zero-add at (made n 0 m k h)
 
 pub returns : goal.returns
 unfolding stored_of
 returns c =
-    let l = c.loop-m in
-    is_up_to _ 16 (pos 0) _ l.invariant.1 (λ i h. l.invariant.2 i (omega arith))
+    is_up_to _ 16 (pos 0) _ c.from_fn.ensures.items.long
+    (all_made _ (coefficient_at c.args.bytes.now c.args.granule) _ (pos 0) _ (λ i y q k. search rules) 16 c.from_fn.ensures.items.each)

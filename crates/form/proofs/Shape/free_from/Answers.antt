@@ -1,5 +1,5 @@
--- `form::free_from` meets its contract: the rest of a granule's coefficients is free as a whole.
--- Assumes nothing.
+-- `form::Shape::free_from` meets its contract: the rest of a granule's coefficients is free as a
+-- whole. Assumes nothing.
 use Prim.Native.Nat.{ℕ, ◌+◌, ◌-◌, ◌≤◌, ◌<◌}
 use Rattle.form.proofs.FreeBytes.{Slot, slot_told, slot_is, free_more, rest_at, rest_slot}
 use Rattle.form.specs.Asked.{FreeRun}
@@ -9,8 +9,8 @@ use mathlib.Core.Bool.{true, false}
 use mathlib.Core.Path.{◌≡◌, sym, ◌∙◌, ap}
 use native.Mathlib.Nat.{not-suc-le-zero}
 use native.Mathlib.Omega.{arith}
-use Rattle.form.proofs.free_from.Goals as goal
-use Rattle.form.proofs.free_from.Goals.{Else-k-eq0, Start}
+use Rattle.form.proofs.Shape.free_from.Goals as goal
+use Rattle.form.proofs.Shape.free_from.Goals.{Else-k-eq0, Start}
 
 none : (G n k j : ℕ) → is_free G n k j ≡ false → j < 508 → FreeRun G n k j 0
 none G n k j e h = record { free = λ i l. absurd (not-suc-le-zero l); fixed = λ _. e; inside = omega arith }
@@ -38,33 +38,23 @@ rest G n k j s o few =
 abbrev start : Else-k-eq0 → Start
 start c = c.before.before.before
 
-slot : (c : Else-k-eq0) → Slot (start c).args.count (start c).args.degree (start c).args.k (start c).args.j
+slot : (c : Else-k-eq0) → Slot (start c).args.self.count (start c).args.self.degree (start c).args.k (start c).args.j
 slot c =
-    slot_told c.args.count c.args.degree c.args.k c.args.j
-    (sym (free_more c.args.count c.args.degree c.args.k c.args.j c.if-k-eq0.false) ∙ sym c.is_free.ensures ∙ c.if-not-is_free.false)
+    slot_told c.args.self.count c.args.self.degree c.args.k c.args.j
+    (sym (free_more c.args.self.count c.args.self.degree c.args.k c.args.j c.if-k-eq0.false) ∙ sym c.is_free.ensures ∙ c.if-not-is_free.false)
 
 pub returns-then-not-is_free : goal.returns-then-not-is_free
-returns-then-not-is_free c = none c.args.count c.args.degree c.args.k c.args.j (sym c.is_free.ensures ∙ c.if-not-is_free.true) c.requires.place
+returns-then-not-is_free c = none c.args.self.count c.args.self.degree c.args.k c.args.j (sym c.is_free.ensures ∙ c.if-not-is_free.true) c.requires.place
 
 pub returns-then-k-eq0 : goal.returns-then-k-eq0
-returns-then-k-eq0 c = one c.args.count c.args.degree c.args.k c.args.j (sym c.is_free.ensures ∙ c.if-not-is_free.false) c.requires.place
+returns-then-k-eq0 c = one c.args.self.count c.args.self.degree c.args.k c.args.j (sym c.is_free.ensures ∙ c.if-not-is_free.false) c.requires.place
 
 pub overflow_sub-result : goal.overflow_sub-result
 overflow_sub-result c = (slot c).low
 
 pub overflow_sub-result-2 : goal.overflow_sub-result-2
-overflow_sub-result-2 c = (slot c).which
-
-pub overflow_mul-result : goal.overflow_mul-result
-overflow_mul-result c = omega arith
-
-pub overflow_add-result : goal.overflow_add-result
-overflow_add-result c = omega arith
-
-pub overflow_sub-result-3 : goal.overflow_sub-result-3
-overflow_sub-result-3 c = omega arith
+overflow_sub-result-2 c = (slot (goal.at.overflow_sub-result-2 c).Else-k-eq0).which
 
 pub returns : goal.returns
 returns c =
-    let s = start c in
-    rest s.args.count s.args.degree s.args.k s.args.j (slot c) c.if-k-eq0.false s.requires.bounds.degree
+    rest c.args.self.count c.args.self.degree c.args.k c.args.j (slot (goal.at.returns c).Else-k-eq0) c.if-k-eq0.false c.args.self.few.degree

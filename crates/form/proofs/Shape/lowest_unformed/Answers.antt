@@ -1,5 +1,5 @@
 use Prim.Native.Nat.{ℕ, ◌+◌, ◌-◌, ◌<◌, zero-le}
-use Rattle.numbers.proofs.Places.{first_is, every_is, every_not}
+use Rattle.numbers.proofs.Places.{found_some, found_none, every_is, every_not}
 use Rattle.form.specs.Asked.{RightRun}
 use Rattle.form.specs.Form.{is_formed, is_right}
 use Rattle.words.specs.Words.{block}
@@ -8,7 +8,7 @@ use mathlib.Core.Bool.{true, false}
 use mathlib.Core.Path.{◌≡◌, refl, ◌∙◌, subst}
 use native.Mathlib.Decide.{dec_lt}
 use native.Mathlib.Omega.{arith}
-use Rattle.form.proofs.lowest_unformed.Goals as goal
+use Rattle.form.proofs.Shape.lowest_unformed.Goals as goal
 
 -- past a run of right bytes
 over_run : (G n k : ℕ) (f : ℕ → ℕ) (j r : ℕ) → ((i : ℕ) → i < j → is_right G n k f i ≡ true) → RightRun G n k f j r
@@ -31,13 +31,10 @@ unfolding is_formed
 unformed G n k f j h e = every_not (is_right G n k f) 508 j h e
 
 pub blocks-2-init : goal.blocks-2-init
-blocks-2-init c = (refl, c.requires.start, c.requires.before)
+blocks-2-init c = (refl, c.requires.before)
 
 pub loop-j-init : goal.loop-j-init
 loop-j-init c = (c.blocks-2.invariant.0, zero-le, below_none _)
-
-pub right_from-right-requires : goal.right_from-right-requires
-right_from-right-requires c = omega arith
 
 pub overflow_add-j : goal.overflow_add-j
 overflow_add-j c = let i = c.right_from-right.ensures.inside in omega arith
@@ -51,42 +48,28 @@ loop-j-preserved c =
     let k = c.blocks-2.k in (
       l.invariant.0,
       c.right_from-right.ensures.inside,
-      over_run c.args.count c.args.degree k (block c.args.bytes.now k) l.j _ l.invariant.2
+      over_run c.args.self.count c.args.self.degree k (block c.args.bytes.now k) l.j _ l.invariant.2
           c.right_from-right.ensures,
     )
-
-pub overflow_step-k : goal.overflow_step-k
-overflow_step-k c = omega arith
-
-pub blocks-2-smaller : goal.blocks-2-smaller
-blocks-2-smaller c = omega arith
 
 pub blocks-2-preserved : goal.blocks-2-preserved
 blocks-2-preserved c =
     let o = c.blocks-2 in (
       c.loop-j.invariant.0,
-      omega arith,
-      below_more _ _ o.invariant.2
-          (formed_is c.args.count c.args.degree o.k (block c.args.bytes.now o.k) (λ j h. c.loop-j.invariant.2 j (omega arith))),
+      below_more _ _ o.invariant.1
+          (formed_is c.args.self.count c.args.self.degree o.k (block c.args.bytes.now o.k) (λ j h. c.loop-j.invariant.2 j (omega arith))),
     )
 
 pub returns-after-blocks-2 : goal.returns-after-blocks-2
 returns-after-blocks-2 c =
     let o = c.blocks-2 in
-    o.invariant.0 ∙ first_is (λ k. is_formed c.args.count c.args.degree k (block c.args.bytes.now k)) c.args.blocks c.args.blocks (record {
-      within = omega arith;
-      before = λ k h. o.invariant.2 k (omega arith);
-      found = λ h. let z : ⊥ = omega arith in absurd z;
-    })
+    o.invariant.0
+    ∙ found_none (λ k. is_formed c.args.self.count c.args.self.degree k (block c.args.bytes.now k)) c.args.blocks
+    (λ k h. o.invariant.1 k (omega (arith, c.requires.start)))
 
 pub returns-then-right-eq0 : goal.returns-then-right-eq0
 returns-then-right-eq0 c =
     let o = c.blocks-2 in
-    first_is (λ k. is_formed c.args.count c.args.degree k (block c.args.bytes.now k)) c.args.blocks o.k
-    (record {
-      within = omega arith;
-      before = o.invariant.2;
-      found =
-          λ h. unformed c.args.count c.args.degree o.k (block c.args.bytes.now o.k) c.loop-j.j c.loop-j-test.true
-          (c.right_from-right.ensures.wrong c.if-right-eq0.true);
-    })
+    found_some (λ k. is_formed c.args.self.count c.args.self.degree k (block c.args.bytes.now k)) c.args.blocks o.k c.blocks-2-test.true o.invariant.1
+    (unformed c.args.self.count c.args.self.degree o.k (block c.args.bytes.now o.k) c.loop-j.j c.loop-j-test.true
+    (c.right_from-right.ensures.wrong c.if-right-eq0.true))

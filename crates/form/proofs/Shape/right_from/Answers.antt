@@ -1,4 +1,4 @@
--- `form::right_from` meets its contract. Assumes nothing.
+-- `form::Shape::right_from` meets its contract. Assumes nothing.
 use Prim.Native.Nat.{ℕ, ◌+◌, ◌*◌, ◌-◌, ◌≤◌, ◌<◌}
 use Rattle.form.proofs.FreeBytes.{right_free, right_fixed, wrong_fixed, right_zero}
 use Rattle.form.specs.Asked.{FreeRun, ZeroRun, RightRun}
@@ -14,7 +14,7 @@ use mathlib.Core.List.{List}
 use mathlib.Core.Path.{◌≡◌, refl, sym, ◌∙◌, ap}
 use native.Mathlib.Nat.{not-suc-le-zero}
 use native.Mathlib.Omega.{arith}
-use Rattle.form.proofs.right_from.Goals as goal
+use Rattle.form.proofs.Shape.right_from.Goals as goal
 
 module _ (G n k : ℕ) (f : ℕ → ℕ) (j : ℕ) where
   free_run : (r : ℕ) → FreeRun G n k j r → (r ≡ 0 → ⊥) → RightRun G n k f j r
@@ -59,35 +59,37 @@ pub head_right-requires : goal.head_right-requires
 head_right-requires c =
     let i = c.requires in
     let z = c.if-k-ne0.true in
-    record { block = record { few = i.within.bounds.granules; other = above _ z; full = i.within.full }; long = i.long }
+    record { block = record { other = above _ z; full = i.within.full }; long = i.long }
 
 pub returns-then-head_right : goal.returns-then-head_right
 returns-then-head_right c =
-    head_run c.args.count c.args.degree c.args.k (block c.args.bytes.now c.args.k) c.args.j c.if-j-eq0.true
+    head_run c.args.self.count c.args.self.degree c.args.k (block c.args.bytes.now c.args.k) c.args.j c.if-j-eq0.true
     (sym c.head_right.ensures ∙ c.if-head_right.true)
 
 pub free_from-free-requires : goal.free_from-free-requires
 free_from-free-requires c = c.requires.within
 
 pub returns-then-free-ne0 : goal.returns-then-free-ne0
-returns-then-free-ne0 c = free_run c.args.count c.args.degree c.args.k (block c.args.bytes.now c.args.k) c.args.j _ c.free_from-free.ensures c.if-free-ne0.true
+returns-then-free-ne0 c =
+    free_run c.args.self.count c.args.self.degree c.args.k (block c.args.bytes.now c.args.k) c.args.j _ c.free_from-free.ensures
+    c.if-free-ne0.true
 
 pub zeros_from-zeros-requires : goal.zeros_from-zeros-requires
 zeros_from-zeros-requires c = let i = c.requires in omega (arith, i.long, i.within.place)
 
 pub returns-then-zeros-ne0 : goal.returns-then-zeros-ne0
 returns-then-zeros-ne0 c =
-    zero_run c.args.count c.args.degree c.args.k c.args.bytes.now c.args.j _ c.if-j-ge8.true c.requires.within.place
+    zero_run c.args.self.count c.args.self.degree c.args.k c.args.bytes.now c.args.j _ c.if-j-ge8.true c.requires.within.place
     c.zeros_from-zeros.ensures c.if-zeros-ne0.true
 
 pub returns-then-bytes-k : goal.returns-then-bytes-k
 returns-then-bytes-k c =
-    none c.args.count c.args.degree c.args.k (block c.args.bytes.now c.args.k) c.args.j
-    (wrong_fixed c.args.count c.args.degree c.args.k (block c.args.bytes.now c.args.k) c.args.j _
+    none c.args.self.count c.args.self.degree c.args.k (block c.args.bytes.now c.args.k) c.args.j
+    (wrong_fixed c.args.self.count c.args.self.degree c.args.k (block c.args.bytes.now c.args.k) c.args.j _
     (c.free_from-free.ensures.fixed c.if-free-ne0.false) c.if-bytes-k.true c.fixed_byte.ensures) c.requires.within.place
 
 pub returns : goal.returns
 returns c =
-    one c.args.count c.args.degree c.args.k (block c.args.bytes.now c.args.k) c.args.j
-    (right_fixed c.args.count c.args.degree c.args.k (block c.args.bytes.now c.args.k) c.args.j _ c.if-bytes-k.false
+    one c.args.self.count c.args.self.degree c.args.k (block c.args.bytes.now c.args.k) c.args.j
+    (right_fixed c.args.self.count c.args.self.degree c.args.k (block c.args.bytes.now c.args.k) c.args.j _ c.if-bytes-k.false
     c.fixed_byte.ensures) c.requires.within.place
