@@ -6,7 +6,7 @@ use linear::steps::Tt;
 use words::{number_at, quad_at};
 
 // 'A table has a first tick S (TT), a granule length H ticks, a count G and a degree n'.
-#[derive(Clone, Copy)]
+#[derive(Clone, Copy, Debug, PartialEq, Eq)]
 pub struct Table {
     pub start: Tt,
     pub length: i64,
