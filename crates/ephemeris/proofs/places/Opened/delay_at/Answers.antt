@@ -1,4 +1,4 @@
--- `ephemeris::places::delay_at` meets its contract: the part of the list is granule g's
+-- `ephemeris::places::Opened::delay_at` meets its contract: the part of the list is granule g's
 -- coefficients, and the place in it is i − gH. Assumes nothing.
 use mathlib.Core.Path.{◌≡◌, ◌∙◌, ap}
 use mathlib.Core.List.{List}
@@ -16,11 +16,11 @@ use Rattle.image.specs.declared.table.Table.{Table}
 use Rattle.image.specs.Bounds.{most_coefficients}
 use Rattle.image.specs.Image.{granule_in}
 use Rattle.ephemeris.specs.Table.{last_place, granule_of, place_in, table_delay}
-use Rattle.ephemeris.specs.Asked.{Placed}
-use Rattle.ephemeris.proofs.Bounds.{length_is, length_cast, last_small}
+use Rattle.ephemeris.specs.Accepted.{Accepted}
+use Rattle.ephemeris.proofs.Bounds.{length_is, last_small}
 use Rattle.ephemeris.proofs.Granules.{at, evaluable}
-use Rattle.ephemeris.proofs.places.delay_at.Goals as goal
-use Rattle.ephemeris.proofs.places.delay_at.Goals.{After-granule_of-g}
+use Rattle.ephemeris.proofs.places.Opened.delay_at.Goals as goal
+use Rattle.ephemeris.proofs.places.Opened.delay_at.Goals.{After-granule_of-g}
 
 -- the numbers and the part in the words of the code
 abbrev from_of : Table → ℕ → ℕ
@@ -40,13 +40,12 @@ record Safe (T : Table) (cs : List ℤ) (i g : ℕ) : Type 0 where
   is : delay_of (value_at (part_of T cs g) (i - g * nat_abs (read T.length)) (nat_abs (read T.length)))
       ≡ table_delay T cs i
 
-safe : (T : Table) (cs : List ℤ) (i : ℕ) → Placed T cs i → Safe T cs i (granule_of T i)
+safe : (T : Table) (cs : List ℤ) (i : ℕ) → Accepted T cs → i ≤ last_place T → Safe T cs i (granule_of T i)
 unfolding table_delay delay_at granule_in place_in last_place
-safe T cs i p =
-    let A = p.accepted in
+safe T cs i A inside =
     let B = A.bounds in
     let g = granule_of T i in
-    let a = at T B i p.inside in
+    let a = at T B i inside in
     let end : from_of T g + (T.degree + 1) ≤ length cs = omega (arith, A.whole, mul-le-mul_right (T.degree + 1) a.there) in
     let all : length cs ≤ most_coefficients = omega (arith, A.whole, mul-le-mul_right (T.degree + 1) B.few.granules, B.few.degree) in
     let part : from_of T g + (T.degree + 1) - from_of T g ≡ T.degree + 1 = omega arith in
@@ -55,19 +54,16 @@ safe T cs i p =
       to = record { fits = omega arith };
       bytes = record { fits = omega arith };
       end = end;
-      start = rw (length_is T B) (record { fits = omega (arith, a.low, p.inside, last_small T B) });
+      start = rw (length_is T B) (record { fits = omega (arith, a.low, inside, last_small T B) });
       low = rw (length_is T B) a.low;
-      asked = rw (part, length_is T B) (evaluable T cs A i p.inside);
+      asked = rw (part, length_is T B) (evaluable T cs A i inside);
       is = rw (part, length_is T B);
     }
 
 all : (c : After-granule_of-g)
-    → Safe c.args.table c.args.coefficients.now c.args.place
+    → Safe c.args.self.now.table c.args.self.now.coefficients.now c.args.place
     c.granule_of-g.result
-all c = rw c.granule_of-g.ensures (safe c.args.table c.args.coefficients.now c.args.place c.requires)
-
-pub overflow_cast-length : goal.overflow_cast-length
-overflow_cast-length c = length_cast c.args.table c.requires.accepted.bounds
+all c = rw c.granule_of-g.ensures (safe c.args.self.now.table c.args.self.now.coefficients.now c.args.place c.args.self.now.accepted c.requires)
 
 pub overflow_mul-from : goal.overflow_mul-from
 overflow_mul-from c = (all (goal.at.overflow_mul-from c).After-granule_of-g).from
@@ -75,8 +71,8 @@ overflow_mul-from c = (all (goal.at.overflow_mul-from c).After-granule_of-g).fro
 pub overflow_add-part : goal.overflow_add-part
 overflow_add-part c = (all (goal.at.overflow_add-part c).After-granule_of-g).to
 
-pub offset_bounds-coefficients-from : goal.offset_bounds-coefficients-from
-offset_bounds-coefficients-from c = (all (goal.at.offset_bounds-coefficients-from c).After-granule_of-g).bytes
+pub offset_bounds-self-from : goal.offset_bounds-self-from
+offset_bounds-self-from c = (all (goal.at.offset_bounds-self-from c).After-granule_of-g).bytes
 
 pub slice_bounds-part-end : goal.slice_bounds-part-end
 slice_bounds-part-end c = (all (goal.at.slice_bounds-part-end c).After-granule_of-g).end

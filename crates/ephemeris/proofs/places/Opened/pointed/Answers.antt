@@ -1,4 +1,4 @@
--- `ephemeris::earliest::pointed` meets its contract. Assumes nothing.
+-- `ephemeris::places::Opened::pointed` meets its contract. Assumes nothing.
 use mathlib.Core.Path.{◌≡◌, sym, ◌∙◌}
 use mathlib.Core.Bool.{true, false}
 use mathlib.Core.Logic.{⊎_elim}
@@ -14,10 +14,10 @@ use Rattle.numbers.proofs.Machine.{lt_yes, lt_no, read_is}
 use Rattle.image.specs.declared.table.Table.{Table}
 use Rattle.ephemeris.specs.Table.{S, last_place, tick_at, is_inside, place_of}
 use Rattle.ephemeris.specs.Asked.{held_inside}
-use Rattle.ephemeris.proofs.Ticks.{inside_both, inside_yes}
+use Rattle.ephemeris.proofs.Ticks.{inside_both, inside_yes, less_is}
 use Rattle.ephemeris.proofs.Closing.{held_inside_lem, held_low, held_high, held_between}
-use Rattle.ephemeris.proofs.earliest.pointed.Goals as goal
-use Rattle.ephemeris.proofs.earliest.pointed.Goals.{After-tt_of-tick}
+use Rattle.ephemeris.proofs.places.Opened.pointed.Goals as goal
+use Rattle.ephemeris.proofs.places.Opened.pointed.Goals.{After-tt_of-tick}
 
 -- ---- over plain numbers
 not_over : (n : ℕ) (t s : ℤ) → t ≤ℤ (s +ℤ pos n) → (t -ℤ s) ≤ℤ pos n
@@ -55,28 +55,21 @@ tick_is : (c : After-tt_of-tick) → c.tt_of-tick.result.0 ≡ c.args.asked.0 +�
 tick_is c = rw (read_is c.args.delay c.ranges.delay) at c.tt_of-tick.ensures
 
 pub tt_of-tick-requires : goal.tt_of-tick-requires
-tt_of-tick-requires c = rw (read_is c.args.delay c.ranges.delay) c.requires.movable
-
-pub place_of-requires : goal.place_of-requires
-place_of-requires c =
-    record {
-      bounds = c.requires.bounds;
-      inside = sym c.inside.ensures ∙ c.if-inside.true;
-    }
+tt_of-tick-requires c = rw (read_is c.args.delay c.ranges.delay) c.requires
 
 pub returns-then-inside : goal.returns-then-inside
 returns-then-inside c =
     rw (← tick_is (goal.at.returns-then-inside c).After-tt_of-tick)
-    (c.place_of.ensures ∙ held_here c.args.table c.tt_of-tick.result.0 (sym c.inside.ensures ∙ c.if-inside.true))
+    (c.place_of.ensures ∙ held_here c.args.self.now.table c.tt_of-tick.result.0 (sym c.inside.ensures ∙ c.if-inside.true))
 
-pub returns-then-tt_before : goal.returns-then-tt_before
-returns-then-tt_before c =
-    rw (← tick_is (goal.at.returns-then-tt_before c).After-tt_of-tick)
-    (held_first c.args.table c.tt_of-tick.result.0 (sym c.tt_before.ensures ∙ c.if-tt_before.true))
+pub returns-then-lt : goal.returns-then-lt
+returns-then-lt c =
+    rw (← tick_is (goal.at.returns-then-lt c).After-tt_of-tick)
+    (held_first c.args.self.now.table c.tt_of-tick.result.0 (sym (less_is c.tt_of-tick.result.0 c.args.self.now.table.start.0) ∙ sym c.lt.ensures ∙ c.if-lt.true))
 
 pub returns : goal.returns
 returns c =
     rw (← tick_is (goal.at.returns c).After-tt_of-tick)
     (c.last_place.ensures
-    ∙ held_last c.args.table c.tt_of-tick.result.0 (sym c.inside.ensures ∙ c.if-inside.false)
-    (sym c.tt_before.ensures ∙ c.if-tt_before.false))
+    ∙ held_last c.args.self.now.table c.tt_of-tick.result.0 (sym c.inside.ensures ∙ c.if-inside.false)
+    (sym (less_is c.tt_of-tick.result.0 c.args.self.now.table.start.0) ∙ sym c.lt.ensures ∙ c.if-lt.false))

@@ -1,4 +1,4 @@
--- `ephemeris::places::tdb_at` meets its contract. Assumes nothing.
+-- `ephemeris::places::Opened::tdb_at` meets its contract. Assumes nothing.
 use mathlib.Core.Path.{◌≡◌, sym, ◌∙◌}
 use native.Mathlib.Omega.{arith}
 use lib.IntN.{pos, ◌+ℤ◌}
@@ -7,23 +7,23 @@ use Rattle.ephemeris.specs.Table.{S, tick_at, table_delay}
 use Rattle.ephemeris.proofs.Bounds.{tick_small}
 use Rattle.ephemeris.proofs.Granules.{delay_bounded}
 use Rattle.ephemeris.proofs.Ticks.{tdb_at_place}
-use Rattle.ephemeris.proofs.places.tdb_at.Goals as goal
-use Rattle.ephemeris.proofs.places.tdb_at.Goals.{After-delay_at-delay, After-tick_at-tick}
+use Rattle.ephemeris.proofs.places.Opened.tdb_at.Goals as goal
+use Rattle.ephemeris.proofs.places.Opened.tdb_at.Goals.{After-delay_at-delay, After-tick_at-tick}
 
-tick_is : (c : After-tick_at-tick) → c.tick_at-tick.result.0 ≡ S c.args.table +ℤ pos c.args.place
+tick_is : (c : After-tick_at-tick) → c.tick_at-tick.result.0 ≡ S c.args.self.now.table +ℤ pos c.args.place
 unfolding tick_at
 tick_is c = c.tick_at-tick.ensures
 
 delay_is : (c : After-delay_at-delay) → read c.delay_at-delay.result
-    ≡ table_delay c.args.table c.args.coefficients.now c.args.place
+    ≡ table_delay c.args.self.now.table c.args.self.now.coefficients.now c.args.place
 delay_is c = read_is _ (record { sfits = c.delay_at-delay.type_inv }) ∙ c.delay_at-delay.ensures
 
 pub tdb_of-requires : goal.tdb_of-requires
 tdb_of-requires c =
-    let A = c.requires.accepted in
+    let A = c.args.self.now.accepted in
     record {
-      near = rw (tick_is (goal.at.tdb_of-requires c).After-tick_at-tick) (omega (arith, tick_small c.args.table A.bounds c.args.place c.requires.inside));
-      little = rw (delay_is c) (delay_bounded c.args.table c.args.coefficients.now A c.args.place c.requires.inside);
+      near = rw (tick_is (goal.at.tdb_of-requires c).After-tick_at-tick) (omega (arith, tick_small c.args.self.now.table A.bounds c.args.place c.requires));
+      little = rw (delay_is c) (delay_bounded c.args.self.now.table c.args.self.now.coefficients.now A c.args.place c.requires);
     }
 
 pub returns : goal.returns

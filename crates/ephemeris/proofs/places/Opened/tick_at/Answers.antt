@@ -1,7 +1,7 @@
--- `ephemeris::places::tick_at` meets its contract: every tick of a table is a valid epoch. Assumes
+-- `ephemeris::places::Opened::tick_at` meets its contract: every tick of a table is a valid epoch. Assumes
 -- nothing.
 use mathlib.Core.Path.{◌≡◌}
-use Prim.Native.Nat.{ℕ, ◌^◌, ◌<◌}
+use Prim.Native.Nat.{ℕ, ◌^◌, ◌≤◌, ◌<◌}
 use native.Mathlib.Omega.{arith}
 use lib.IntN.{pos, ◌+ℤ◌}
 use mir.Syntax.{w64}
@@ -9,10 +9,10 @@ use mir.Val.{SFits, to_z}
 use mir.ValLaws.{to_z_pos}
 use Rattle.numbers.proofs.Machine.{read, read_is}
 use Rattle.image.specs.declared.table.Table.{Table}
-use Rattle.ephemeris.specs.Table.{S, tick_at}
-use Rattle.ephemeris.specs.Asked.{Counted}
+use Rattle.ephemeris.specs.Table.{S, last_place, tick_at}
+use Rattle.ephemeris.specs.Accepted.{Bounded}
 use Rattle.ephemeris.proofs.Bounds.{last_small, start_is, tick_fits}
-use Rattle.ephemeris.proofs.places.tick_at.Goals as goal
+use Rattle.ephemeris.proofs.places.Opened.tick_at.Goals as goal
 
 -- the numbers in the words of the code
 record Safe (T : Table) (i : ℕ) : Type 0 where
@@ -20,12 +20,11 @@ record Safe (T : Table) (i : ℕ) : Type 0 where
   tick : SFits w64 (read (S T) +ℤ to_z w64 i)
   is : read (read (S T) +ℤ to_z w64 i) ≡ tick_at T i
 
-safe : (T : Table) (i : ℕ) → Counted T i → Safe T i
+safe : (T : Table) (i : ℕ) → Bounded T → i ≤ last_place T → Safe T i
 unfolding tick_at
-safe T i p =
-    let B = p.bounds in
-    let small : i < 2 ^ 63 = omega (arith, p.inside, last_small T B) in
-    let fits = tick_fits T B i p.inside in
+safe T i B inside =
+    let small : i < 2 ^ 63 = omega (arith, inside, last_small T B) in
+    let fits = tick_fits T B i inside in
     record {
       cast = record { sfits = small };
       tick = rw (start_is T B, to_z_pos w64 i small) fits;
@@ -33,10 +32,10 @@ safe T i p =
     }
 
 pub overflow_cast-result : goal.overflow_cast-result
-overflow_cast-result c = (safe c.args.table c.args.place c.requires).cast
+overflow_cast-result c = (safe c.args.self.now.table c.args.place c.args.self.now.accepted.bounds c.requires).cast
 
 pub overflow_add-result : goal.overflow_add-result
-overflow_add-result c = (safe c.args.table c.args.place c.requires).tick
+overflow_add-result c = (safe c.args.self.now.table c.args.place c.args.self.now.accepted.bounds c.requires).tick
 
 pub returns : goal.returns
-returns c = (safe c.args.table c.args.place c.requires).is
+returns c = (safe c.args.self.now.table c.args.place c.args.self.now.accepted.bounds c.requires).is
