@@ -36,9 +36,10 @@ pub refused_as : (which : ℕ) (judgement : Judged) (told : RefusedOf) → judge
     → (judgement ≡ Err told.refusal) × (told ≡ record { refusal = told.refusal; which = which })
 refused_as which (Ok s) told e = let z : ◌≡◌ {A = ℕ} 0 1 = cc in let no : ⊥ = omega arith in absurd no
 refused_as which (Err refusal) told e =
-    let same : record { refusal = refusal; which = which } ≡ told = cc in
-    (ap (λ (r : RefusedOf). Err r.refusal) same,
-    sym same ∙ ap (λ (r : RefusedOf). record { refusal = r.refusal; which = which }) same)
+    let same : record { refusal = refusal; which = which } ≡ told = cc in (
+      ap (λ (r : RefusedOf). Err r.refusal) same,
+      sym same ∙ ap (λ (r : RefusedOf). record { refusal = r.refusal; which = which }) same,
+    )
 
 -- ---- in turn: a table's own refusal, or what is left
 abbrev compared_by : ℕ → Judged → Compared → Compared

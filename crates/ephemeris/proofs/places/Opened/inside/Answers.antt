@@ -10,7 +10,7 @@ returns-then-le c =
     let t = c.args.tick.0 in
     let last = c.tick_at-last.ensures in
     let from = sym (at_most_is c.args.self.now.table.start.0 t) ∙ sym c.le.ensures ∙ c.if-le.true in
-    rw (c.le-then-le.ensures, at_most_is t c.tick_at-last.result.0, from, last, c.last_place.ensures)
+    c.le-then-le.ensures ∙ at_most_is t c.tick_at-last.result.0 ∙ rw (from, last, c.last_place.ensures)
 
 pub returns-else-le : goal.returns-else-le
 unfolding is_inside

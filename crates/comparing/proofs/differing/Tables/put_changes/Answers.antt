@@ -1,4 +1,4 @@
--- `comparing::listing::put_changes` meets its contract. Assumes nothing.
+-- `comparing::differing::Tables::put_changes` meets its contract. Assumes nothing.
 use mathlib.Core.Path.{◌≡◌, refl, sym, ◌∙◌, ap}
 use mathlib.Core.List.{List}
 use Prim.Native.Nat.{ℕ, ◌+◌, ◌*◌, ◌<◌, ◌≤◌, zero-le}
@@ -11,16 +11,16 @@ use Rattle.comparing.specs.Comparing.{list_put}
 use Rattle.comparing.proofs.Entries.{changes_none, grows, entry_added, length_added, none_added}
 use Rattle.comparing.proofs.Entries.{put_none, put_more, put_length}
 use Rattle.comparing.proofs.Reading.{change_small}
-use Rattle.comparing.proofs.listing.put_changes.Goals as goal
-use Rattle.comparing.proofs.listing.put_changes.Goals.{After-change_of-change, At-loop-g, Start}
-use Rattle.comparing.proofs.listing.put_changes.Goals.{then-change-gt0, else-change-gt0}
+use Rattle.comparing.proofs.differing.Tables.put_changes.Goals as goal
+use Rattle.comparing.proofs.differing.Tables.put_changes.Goals.{After-change_of-change, At-loop-g, Start}
+use Rattle.comparing.proofs.differing.Tables.put_changes.Goals.{then-change-gt0, else-change-gt0}
 
 -- the granules of the two tables
 abbrev firsts : Start → ℕ → List ℤ
-firsts s = granule_stored s.args.first.now s.args.degree
+firsts s = granule_stored s.args.self.now.first.bytes.now s.args.self.now.first.degree
 
 abbrev seconds : Start → ℕ → List ℤ
-seconds s = granule_stored s.args.second.now s.args.other
+seconds s = granule_stored s.args.self.now.second.bytes.now s.args.self.now.second.degree
 
 -- a granule that differs has its room, for no granule behind it takes an entry away
 room : (c : After-change_of-change) → 0 < c.change_of-change.result.sum
@@ -30,7 +30,7 @@ room c differs =
     let s = (goal.at.After-change_of-change c).Start in
     let change = c.change_of-change in
     let one = length_added (firsts s) (seconds s) l.g change.result change.ensures differs in
-    omega (arith, one, grows (firsts s) (seconds s) (l.g + 1) c.args.count (omega (arith, c.loop-g-test.true)), c.requires.room)
+    omega (arith, one, grows (firsts s) (seconds s) (l.g + 1) c.args.self.now.count (omega (arith, c.loop-g-test.true)), c.requires)
 
 -- the list is as long as it was
 long : (c : At-loop-g)
@@ -40,24 +40,21 @@ long c =
     (put_length _ _
     (omega (
       arith,
-      grows (firsts (goal.at.At-loop-g c).Start) (seconds (goal.at.At-loop-g c).Start) c.loop-g.g c.args.count c.loop-g.invariant.0,
-      c.requires.room,
+      grows (firsts (goal.at.At-loop-g c).Start) (seconds (goal.at.At-loop-g c).Start) c.loop-g.g c.args.self.now.count c.loop-g.invariant.0,
+      c.requires,
     )))
 
 pub loop-g-init : goal.loop-g-init
 loop-g-init c = rw (changes_none (firsts (goal.at.loop-g-init c).Start) (seconds (goal.at.loop-g-init c).Start)) (zero-le, refl, sym (put_none _))
 
-pub change_of-change-requires : goal.change_of-change-requires
-change_of-change-requires c = c.requires.pairs.each c.loop-g.g c.loop-g-test.true
-
 pub put_entry-requires : goal.put_entry-requires
 put_entry-requires c =
-    let pair = c.requires.pairs.each c.loop-g.g c.loop-g-test.true in
+    let pair = c.args.self.now.pairs.each c.loop-g.g c.loop-g-test.true in
     let change = c.change_of-change in
     let small = change_small _ _ _ _ _ pair change.result change.ensures in
     record {
       room = omega (arith, room (goal.at.put_entry-requires c).After-change_of-change c.if-change-gt0.true, long (goal.at.put_entry-requires c).At-loop-g);
-      granule = omega (arith, c.loop-g-test.true, c.requires.pairs.few);
+      granule = omega (arith, c.loop-g-test.true, c.args.self.now.pairs.few);
       largest = omega (arith, small.0);
       sum = omega (arith, small.1);
     }
@@ -92,6 +89,6 @@ shape_of-entries c = long (goal.at.shape_of-entries c).At-loop-g
 pub returns : goal.returns
 returns c =
     let l = c.loop-g in
-    let all : l.g ≡ c.args.count = omega arith in
+    let all : l.g ≡ c.args.self.now.count = omega arith in
     let three = rw all at l.invariant.1 in
     record { answer = omega arith; list = rw all at l.invariant.2 }
