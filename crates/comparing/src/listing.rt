@@ -11,9 +11,8 @@ fn put_entry(entries: &mut [i64], at: usize, granule: usize, change: Change)
     requires { EntryFits entries.old at granule change }
     ensures { entries.new ≡ entry_put entries.old at granule change }
 {
-    entries[at] = granule as i64;
-    entries[at + 1] = change.largest as i64;
-    entries[at + 2] = change.sum as i64;
+    let entry = [granule as i64, change.largest as i64, change.sum as i64];
+    entries[at..at + 3].copy_from_slice(&entry);
 }
 
 impl Tables<'_> {
@@ -23,13 +22,9 @@ impl Tables<'_> {
             (granule_stored self.now.first.bytes.now self.now.first.degree)
             (granule_stored self.now.second.bytes.now self.now.second.degree) self.now.count) }
     {
-        let mut changes = 0;
-        for g in 0..self.count {
-            if self.change_of(g).sum > 0 {
-                changes += 1;
-            }
-        }
-        changes
+        (0..self.count)
+            .filter(|&g| self.change_of(g).sum > 0)
+            .count()
     }
 
     // Whether a list of so many numbers has room for the entries. One with room for every granule
