@@ -53,16 +53,21 @@ module _ (first second : ℕ → List ℤ) where
   abbrev changed : ℕ → Bool
   changed g = ltb 0 (sum_of (first g) (second g))
 
-  counted_from : (a n : ℕ) → length (changes_to first second a) + length (filter changed (range_with_len a n)) ≡ length (changes_to first second (a + n))
+  abbrev many : ℕ → ℕ
+  many n = length (changes_to first second n)
+
+  abbrev among : ℕ → ℕ → ℕ
+  among a n = length (filter changed (range_with_len a n))
+
+  counted_from : (a n : ℕ) → many a + among a n ≡ many (a + n)
   counted_from a zero = let e : a + 0 ≡ a = omega arith in rw e (omega arith)
   counted_from a (suc n) = by (changed a) refl (counted_from (a + 1) n)
     where
       next : a + suc n ≡ a + 1 + n
       next = omega arith
 
-      by : (v : Bool) → changed a ≡ v
-          → length (changes_to first second (a + 1)) + length (filter changed (range_with_len (a + 1) n)) ≡ length (changes_to first second (a + 1 + n))
-          → length (changes_to first second a) + length (filter changed (range_with_len a (suc n))) ≡ length (changes_to first second (a + suc n))
+      by : (v : Bool) → changed a ≡ v → many (a + 1) + among (a + 1) n ≡ many (a + 1 + n)
+          → many a + among a (suc n) ≡ many (a + suc n)
       by true e rest =
           let more = ap length (changes_more a (differs_sum (first a) (second a) ∙ e)) in
           rw (e, next) (omega (arith, rest, simp length-append at more))
@@ -70,7 +75,7 @@ module _ (first second : ℕ → List ℤ) where
           let stay = ap length (changes_stay a (differs_sum (first a) (second a) ∙ e)) in
           rw (e, next) (omega (arith, rest, stay))
 
-  pub counted : (n : ℕ) → length (filter changed (range_with_len 0 n)) ≡ length (changes_to first second n)
+  pub counted : (n : ℕ) → among 0 n ≡ many n
   counted n =
       let all : 0 + n ≡ n = omega arith in
       let none = ap length changes_none in

@@ -1,5 +1,5 @@
--- `comparing::alike` meets its contract: two numbers are the same where they are none apart. Assumes
--- nothing.
+-- `comparing::alike` meets its contract: two numbers are the same where they are none apart.
+-- Assumes nothing.
 use borrow.Author.Rules.{rules}
 use borrow.Author.Tests.{eq-eqb, ne_eqb}
 use mathlib.Core.Path.{◌≡◌, sym, ◌∙◌}

@@ -1,5 +1,5 @@
--- `comparing::listing::put_entry` meets its contract: three numbers in a row, put one by one. Assumes
--- nothing.
+-- `comparing::listing::put_entry` meets its contract: three numbers in a row are the three put one
+-- by one. Assumes nothing.
 use mathlib.Core.Path.{◌≡◌, sym, ◌∙◌}
 use mathlib.Core.List.{List, [], ◌∷◌, ◌++◌, append_assoc}
 use Prim.Native.Nat.{ℕ, suc, ◌+◌, ◌-◌, ◌≤◌}

@@ -84,4 +84,6 @@ pub returns : goal.returns
 returns c =
     let l = c.loop-k in
     let n = c.max-width.ensures in
-    whole _ _ _ l.k (omega (arith, n, longer_is c.args.self.now.first.bytes.now c.args.self.now.second.bytes.now c.args.self.now.first.degree c.args.self.now.second.degree c.args.granule)) l.invariant.0 l.invariant.1
+    let t = c.args.self.now in
+    let longer = longer_is t.first.bytes.now t.second.bytes.now t.first.degree t.second.degree c.args.granule in
+    whole _ _ _ l.k (omega (arith, n, longer)) l.invariant.0 l.invariant.1

@@ -1,5 +1,5 @@
--- `comparing::differing::Tables::has_room` meets its contract: no more granules differ than there are.
--- Assumes nothing.
+-- `comparing::differing::Tables::has_room` meets its contract: no more granules differ than there
+-- are. Assumes nothing.
 use borrow.Author.Tests.{le-leb}
 use mathlib.Core.Path.{sym, ◌∙◌}
 use mathlib.Core.List.{List}
@@ -25,7 +25,8 @@ returns-then-self-many c =
 
 pub overflow_mul-result : goal.overflow_mul-result
 overflow_mul-result c =
-    let most = few_found c.args.self.now.first.bytes.now c.args.self.now.first.degree c.args.self.now.second.bytes.now c.args.self.now.second.degree c.args.self.now.count c.args.self.now.pairs in
+    let t = c.args.self.now in
+    let most = few_found t.first.bytes.now t.first.degree t.second.bytes.now t.second.degree t.count t.pairs in
     record { fits = omega (arith, c.count_changes.ensures) }
 
 pub returns-else-self-many : goal.returns-else-self-many

@@ -21,7 +21,8 @@ reached : (T : Table) (cs : List ℤ) (asked tick : ℤ) → is_covered T cs ask
 unfolding tt_step tt_of
 reached T cs asked tick covered e = rw (covered, e)
 
-outside : (T : Table) (cs : List ℤ) (asked : ℤ) → is_covered T cs asked ≡ false → (Err Outside.Table) ≡ tt_step T cs asked
+outside : (T : Table) (cs : List ℤ) (asked : ℤ) → is_covered T cs asked ≡ false
+    → (Err Outside.Table) ≡ tt_step T cs asked
 unfolding tt_step
 outside T cs asked left = rw left
 

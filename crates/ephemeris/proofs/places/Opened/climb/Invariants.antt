@@ -1,5 +1,5 @@
--- `ephemeris::places::Opened::climb` meets its contract. The loop's invariant: the place is not after
--- the earliest tick. Assumes nothing.
+-- `ephemeris::places::Opened::climb` meets its contract. The loop's invariant: the place is not
+-- after the earliest tick. Assumes nothing.
 use Prim.Native.Nat.{◌≤◌}
 use Rattle.ephemeris.specs.Table.{earliest_place}
 use Rattle.ephemeris.proofs.places.Opened.climb.Given as goal

@@ -26,7 +26,8 @@ pointed_is : (c : After-pointed-next)
 pointed_is c = rw (delay_is (goal.at.After-pointed-next c).After-delay_at-delay) at c.pointed-next.ensures
 
 -- after the last turn
-settled : (c : After-loop) → FromHere c.args.self.now.table c.args.self.now.coefficients.now c.args.asked.0 (c.loop.place - 1)
+settled : (c : After-loop)
+    → FromHere c.args.self.now.table c.args.self.now.coefficients.now c.args.asked.0 (c.loop.place - 1)
 settled c =
     let two : c.loop.counter ≡ 2 = omega (arith, c.loop.invariant.0, c.loop-test.false) in
     near_last c.args.self.now.table c.args.self.now.coefficients.now c.args.self.now.accepted c.args.asked.0 c.loop.place (rw two at c.loop.invariant.1)

@@ -1,5 +1,5 @@
--- `ephemeris::places::Opened::last_place` meets its contract: 360 granules of 2^50 ticks fit. Assumes
--- nothing.
+-- `ephemeris::places::Opened::last_place` meets its contract: 360 granules of 2^50 ticks fit.
+-- Assumes nothing.
 use mathlib.Core.Path.{◌≡◌}
 use Prim.Native.Nat.{◌*◌}
 use lib.IntN.{nat_abs}

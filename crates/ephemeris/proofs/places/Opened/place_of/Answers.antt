@@ -1,5 +1,5 @@
--- `ephemeris::places::Opened::place_of` meets its contract: the tick is inside the table, so the difference
--- is one of its places. Assumes nothing.
+-- `ephemeris::places::Opened::place_of` meets its contract: the tick is inside the table, so the
+-- difference is one of its places. Assumes nothing.
 use borrow.Author.Rules.{rules}
 use mathlib.Core.Path.{◌≡◌}
 use Prim.Native.Nat.{◌*◌, ◌≤◌}

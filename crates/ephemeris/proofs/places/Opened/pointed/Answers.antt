@@ -64,8 +64,9 @@ returns-then-inside c =
 
 pub returns-then-lt : goal.returns-then-lt
 returns-then-lt c =
+    let before = less_is c.tt_of-tick.result.0 c.args.self.now.table.start.0 in
     rw (← tick_is (goal.at.returns-then-lt c).After-tt_of-tick)
-    (held_first c.args.self.now.table c.tt_of-tick.result.0 (sym (less_is c.tt_of-tick.result.0 c.args.self.now.table.start.0) ∙ sym c.lt.ensures ∙ c.if-lt.true))
+    (held_first c.args.self.now.table c.tt_of-tick.result.0 (sym before ∙ sym c.lt.ensures ∙ c.if-lt.true))
 
 pub returns : goal.returns
 returns c =

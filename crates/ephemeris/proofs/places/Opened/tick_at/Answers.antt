@@ -1,5 +1,5 @@
--- `ephemeris::places::Opened::tick_at` meets its contract: every tick of a table is a valid epoch. Assumes
--- nothing.
+-- `ephemeris::places::Opened::tick_at` meets its contract: every tick of a table is a valid
+-- epoch. Assumes nothing.
 use mathlib.Core.Path.{◌≡◌}
 use Prim.Native.Nat.{ℕ, ◌^◌, ◌≤◌, ◌<◌}
 use native.Mathlib.Omega.{arith}
