@@ -1,6 +1,7 @@
 -- The list of the granules that differ: entry by entry as it is made, put, and there. Assumes
 -- nothing.
 use borrow.Author.Tests.{lt-ltb, le-ltb}
+use Rattle.std.specs.List.{filter, range_with_len}
 use mathlib.Core.Path.{◌≡◌, refl, sym, ◌∙◌, ap}
 use mathlib.Core.Bool.{Bool, true, false}
 use mathlib.Core.List.{List, [], ◌∷◌, ◌++◌}
@@ -9,12 +10,14 @@ use Prim.Native.Nat.{ℕ, zero, suc, ◌+◌, ◌-◌, ◌*◌, ◌≤◌, ◌<�
 use native.Mathlib.Nat.{eq-or-lt_of_le, le_of_suc-le-suc, not-suc-le-zero}
 use native.Mathlib.Numerals.{add-one}
 use native.Mathlib.Omega.{arith}
+use lib.Dec.{ltb}
 use lib.IntN.{ℤ, pos}
 use lib.ListN.{length, get_or, drop, set, length-append, length-drop, get_or-append}
 use lib.Seq.{take_at, drop-append-add, drop-drop, sets-eq, get_or-append-add, get_or-drop}
 use Rattle.comparing.specs.declared.differing.Change.{Change}
 use Rattle.comparing.specs.Asked.{IsChange, entry_put}
-use Rattle.comparing.specs.Changes.{Entry, entry_at, entry_in, differs, changes_to, flat}
+use Rattle.comparing.specs.Changes.{Entry, entry_at, entry_in, differs, sum_of, changes_to}
+use Rattle.comparing.specs.Changes.{flat}
 use Rattle.comparing.specs.Comparing.{list_put}
 use Rattle.comparing.proofs.Sums.{differs_sum}
 
@@ -45,6 +48,38 @@ module _ (first second : ℕ → List ℤ) where
             × (length (changes_to first second (g + 1)) ≤ length (changes_to first second g) + 1)
         by true e = rw (changes_more e) (simp length-append (omega arith, omega arith))
         by false e = rw (changes_stay e) (omega arith, omega arith)
+
+  -- counted by the sums, from granule a on
+  abbrev changed : ℕ → Bool
+  changed g = ltb 0 (sum_of (first g) (second g))
+
+  abbrev many : ℕ → ℕ
+  many n = length (changes_to first second n)
+
+  abbrev among : ℕ → ℕ → ℕ
+  among a n = length (filter changed (range_with_len a n))
+
+  counted_from : (a n : ℕ) → many a + among a n ≡ many (a + n)
+  counted_from a zero = let e : a + 0 ≡ a = omega arith in rw e (omega arith)
+  counted_from a (suc n) = by (changed a) refl (counted_from (a + 1) n)
+    where
+      next : a + suc n ≡ a + 1 + n
+      next = omega arith
+
+      by : (v : Bool) → changed a ≡ v → many (a + 1) + among (a + 1) n ≡ many (a + 1 + n)
+          → many a + among a (suc n) ≡ many (a + suc n)
+      by true e rest =
+          let more = ap length (changes_more a (differs_sum (first a) (second a) ∙ e)) in
+          rw (e, next) (omega (arith, rest, simp length-append at more))
+      by false e rest =
+          let stay = ap length (changes_stay a (differs_sum (first a) (second a) ∙ e)) in
+          rw (e, next) (omega (arith, rest, stay))
+
+  pub counted : (n : ℕ) → among 0 n ≡ many n
+  counted n =
+      let all : 0 + n ≡ n = omega arith in
+      let none = ap length changes_none in
+      omega (arith, none, rw all at (counted_from 0 n))
 
   pub at_most : (n : ℕ) → length (changes_to first second n) ≤ n
   at_most zero = rw changes_none (omega arith)

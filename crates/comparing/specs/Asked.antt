@@ -1,15 +1,15 @@
 -- What the inner functions ask of their callers, and what they give and leave.
-use Rattle.std.specs.Prelude.{Ok, ◌≡◌, true, List, ℕ, ◌+◌, ◌*◌, ◌≤◌, ◌<◌, ℤ, pos, nat_abs, length}
+use Rattle.std.specs.Prelude.{Ok, ◌≡◌, true, List, ℕ, ◌+◌, ◌≤◌, ◌<◌, ℤ, pos, length}
 use Rattle.std.specs.Prelude.{set}
 use Rattle.granule.specs.Bounds.{most_degree}
-use Rattle.granule.specs.Tests.{largest, is_small}
+use Rattle.granule.specs.Tests.{is_small}
 use Rattle.form.specs.Few.{most_granules}
 use Rattle.image.specs.Asked.{Stored}
 use Rattle.image.specs.Image.{granule_stored}
 use Rattle.image.specs.declared.table.Table.{Table}
 use Rattle.blocks.specs.Judging.{judged}
 use Rattle.comparing.specs.declared.differing.Change.{Change}
-use Rattle.comparing.specs.Changes.{Entry, largest_of, sum_of, changes_to}
+use Rattle.comparing.specs.Changes.{Entry, largest_of, sum_of}
 use Rattle.comparing.specs.Comparing.{list_put}
 
 -- ---- what is asked
@@ -17,11 +17,6 @@ use Rattle.comparing.specs.Comparing.{list_put}
 pub record BothAccepted (b : List ℕ) (t : Table) (d : List ℕ) (u : Table) : Type 0 where
   pub first : judged b ≡ Ok t
   pub second : judged d ≡ Ok u
-
--- two coefficients that test 14 has let pass
-pub record BothSmall (c d : ℤ) : Type 0 where
-  pub first : nat_abs c ≤ largest
-  pub second : nat_abs d ≤ largest
 
 -- a granule whose coefficients are in the bytes, of a degree within its bound, and pass test 14
 pub record Readable (b : List ℕ) (n g : ℕ) : Type 0 where
@@ -38,11 +33,6 @@ pub record Pair (b : List ℕ) (n : ℕ) (d : List ℕ) (m g : ℕ) : Type 0 whe
 pub record Pairs (b : List ℕ) (n : ℕ) (d : List ℕ) (m G : ℕ) : Type 0 where
   pub few : G ≤ most_granules
   pub each : (g : ℕ) → g < G → Pair b n d m g
-
--- and a list with room for the entries
-pub record Roomy (b : List ℕ) (n : ℕ) (d : List ℕ) (m G : ℕ) (entries : List ℤ) : Type 0 where
-  pub pairs : Pairs b n d m G
-  pub room : 3 * length (changes_to (granule_stored b n) (granule_stored d m) G) ≤ length entries
 
 -- room for an entry, whose numbers fit 64 bits with a sign
 pub record EntryFits (entries : List ℤ) (at g : ℕ) (change : Change) : Type 0 where

@@ -1,67 +1,66 @@
-// How far a granule of one table is from the same granule of another. A table is its bytes and its
-// degree here; both have been accepted.
-ghost use Rattle.std.specs.Prelude.{◌≡◌, max, pos, get_or};
-ghost use Rattle.numbers.specs.Signs.{gap};
+// How far a granule of one table is from the same granule of another, both read where they lie.
+ghost use Rattle.std.specs.Prelude.{◌≡◌, pos, get_or, ◌<◌};
 ghost use Rattle.image.specs.Image.{granule_stored};
-ghost use Rattle.comparing.specs.Asked.{Readable, Pair, BothSmall, IsChange};
+ghost use Rattle.comparing.specs.Asked.{Readable, Pairs, IsChange};
 
 use granule::Units;
 use image::take::coefficient;
 
 // 'the largest coefficient difference and the sum of the absolute differences', in coefficient
 // units.
-#[derive(Clone, Copy)]
+#[derive(Clone, Copy, Debug, PartialEq, Eq)]
 pub struct Change {
     pub largest: u64,
     pub sum: u64,
 }
 
-fn larger(a: u64, b: u64) -> u64
-    ensures { result ≡ max a b }
-{
-    if a < b {
-        return b;
-    }
-    a
+// The granules of an accepted table: its bytes and its degree.
+#[derive(Clone, Copy)]
+pub struct Granules<'a> {
+    pub bytes: &'a [u8],
+    pub degree: usize,
 }
 
-// Coefficient k of a granule, 'a missing coefficient counting as zero'.
-fn coefficient_or_zero(bytes: &[u8], degree: usize, granule: usize, k: usize) -> Units
-    requires { Readable bytes.now degree granule }
-    ensures { result.0 ≡ get_or (granule_stored bytes.now degree granule) k (pos 0) }
-{
-    if degree < k {
-        return Units(0);
+impl Granules<'_> {
+    // Coefficient k of a granule, 'a missing coefficient counting as zero'.
+    fn coefficient_or_zero(&self, granule: usize, k: usize) -> Units
+        requires { Readable self.now.bytes.now self.now.degree granule }
+        ensures { result.0 ≡ get_or
+            (granule_stored self.now.bytes.now self.now.degree granule) k (pos 0) }
+    {
+        if self.degree < k {
+            return Units(0);
+        }
+        Units(coefficient(self.bytes, granule, k))
     }
-    Units(coefficient(bytes, granule, k))
 }
 
-// The absolute difference of two coefficients; test 14 has let both pass, so that it fits.
-fn apart(c: Units, d: Units) -> u64
-    requires { BothSmall c.0 d.0 }
-    ensures { result ≡ gap c.0 d.0 }
-{
-    if c.0 < d.0 {
-        return (d.0 - c.0) as u64;
-    }
-    (c.0 - d.0) as u64
+// Two accepted tables that have so many granules each.
+#[derive(Clone, Copy)]
+pub struct Tables<'a> {
+    pub first: Granules<'a>,
+    pub second: Granules<'a>,
+    pub count: usize,
+    ghost pairs: { Pairs first.bytes.now first.degree second.bytes.now second.degree count },
 }
 
-// What changed in a granule.
-pub fn change_of(first: &[u8], degree: usize, second: &[u8], other: usize, granule: usize) -> Change
-    requires { Pair first.now degree second.now other granule }
-    ensures { IsChange (granule_stored first.now degree granule)
-        (granule_stored second.now other granule) result }
-{
-    let width = larger(degree as u64, other as u64) as usize + 1;
-    let mut largest = 0;
-    let mut sum = 0;
-    for k in 0..width {
-        let c = coefficient_or_zero(first, degree, granule, k);
-        let d = coefficient_or_zero(second, other, granule, k);
-        let by = apart(c, d);
-        largest = larger(largest, by);
-        sum += by;
+impl Tables<'_> {
+    // What changed in a granule.
+    pub fn change_of(&self, granule: usize) -> Change
+        requires { granule < self.now.count }
+        ensures { IsChange (granule_stored self.now.first.bytes.now self.now.first.degree granule)
+            (granule_stored self.now.second.bytes.now self.now.second.degree granule) result }
+    {
+        let width = self.first.degree.max(self.second.degree) + 1;
+        let mut largest = 0u64;
+        let mut sum = 0u64;
+        for k in 0..width {
+            let c = self.first.coefficient_or_zero(granule, k);
+            let d = self.second.coefficient_or_zero(granule, k);
+            let by = c.0.abs_diff(d.0);
+            largest = largest.max(by);
+            sum += by;
+        }
+        Change { largest, sum }
     }
-    Change { largest, sum }
 }

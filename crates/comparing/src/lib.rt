@@ -12,7 +12,7 @@ ghost use Rattle.comparing.specs.Answers.{compared_refused, judged_as};
 ghost use Rattle.comparing.specs.Comparing.{is_alike, HasCompared};
 ghost use Rattle.comparing.specs.Asked.{BothAccepted};
 
-use crate::listing::{has_room, put_changes};
+use crate::differing::{Granules, Tables};
 use blocks::judging::judge;
 use image::table::Table;
 use scales::refusal::Refusal;
@@ -45,15 +45,7 @@ fn judge_as(which: u32, bytes: &[u8]) -> Result<Table, RefusedOf>
 fn alike(first: Table, second: Table) -> bool
     ensures { result ≡ is_alike first second }
 {
-    let start = first.start;
-    let other = second.start;
-    if start.0 != other.0 {
-        return false;
-    }
-    if first.length != second.length {
-        return false;
-    }
-    first.count == second.count
+    (first.start, first.length, first.count) == (second.start, second.length, second.count)
 }
 
 // Two tables that were judged and accepted: 20, then 8, then the list.
@@ -71,13 +63,21 @@ fn compare_accepted(
     if !alike(table, other) {
         return refused(20);
     }
-    let count = table.count as usize;
-    let degree = table.degree as usize;
-    let other_degree = other.degree as usize;
-    if !has_room(first, degree, second, other_degree, count, entries.len()) {
+    let tables = Tables {
+        first: Granules {
+            bytes: first,
+            degree: table.degree as usize,
+        },
+        second: Granules {
+            bytes: second,
+            degree: other.degree as usize,
+        },
+        count: table.count as usize,
+    };
+    if !tables.has_room(entries.len()) {
         return refused(8);
     }
-    let changes = put_changes(first, degree, second, other_degree, count, entries);
+    let changes = tables.put_changes(entries);
     Ok(changes as u64)
 }
 

@@ -145,7 +145,7 @@ module _ (T : Table) (cs : List ℤ) (A : Accepted T cs) (asked : ℤ) where
   -- ---- a place that asked + D leads back to: the earliest tick is there, or one before
   pub near_fixed : (i : ℕ) → held_inside (asked +ℤ table_delay T cs i -ℤ S T) (last_place T) ≡ i → i ≤ last_place T
       → ThisOrBefore T cs asked i
-  near_fixed i e h = record { placed = record { accepted = A; inside = h }; from = from; to = to }
+  near_fixed i e h = record { inside = h; from = from; to = to }
     where
       m : ℕ
       m = nat_abs (table_delay T cs i -ℤ table_delay T cs (earliest_place T cs asked))
@@ -171,4 +171,4 @@ module _ (T : Table) (cs : List ℤ) (A : Accepted T cs) (asked : ℤ) where
 
   -- ---- and after the last turn it is at most one before, or two after
   pub near_last : (i : ℕ) → NearEarliest T cs asked i (reach_after 2) → FromHere T cs asked (i - 1)
-  near_last i n = record { accepted = A; from = omega (arith, rw reach_last at n.over); to = omega (arith, rw reach_last at n.under) }
+  near_last i n = record { from = omega (arith, rw reach_last at n.over); to = omega (arith, rw reach_last at n.under) }

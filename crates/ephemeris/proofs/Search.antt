@@ -60,10 +60,11 @@ module _ (T : Table) (cs : List ℤ) (asked : ℤ) where
       (le_or_lt (earliest_place T cs asked) i)
 
   -- where it is at the place i or at the one before, a look at the one before decides
-  pub is_this : (i : ℕ) → ThisOrBefore T cs asked i → (i ≡ 0 → ⊥) → lt_z (tdb_at T cs (i - 1)) asked ≡ true
+  pub is_this : Accepted T cs → (i : ℕ) → ThisOrBefore T cs asked i → (i ≡ 0 → ⊥)
+      → lt_z (tdb_at T cs (i - 1)) asked ≡ true
       → i ≡ earliest_place T cs asked
-  is_this i w some h =
-      let later = earliest_later w.placed.accepted (i - 1) (omega (arith, w.placed.inside)) (lt_yes _ _ h) in
+  is_this A i w some h =
+      let later = earliest_later A (i - 1) (omega (arith, w.inside)) (lt_yes _ _ h) in
       omega (arith, w.to)
 
   pub is_before : (i : ℕ) → ThisOrBefore T cs asked i → lt_z (tdb_at T cs (i - 1)) asked ≡ false

@@ -1,15 +1,18 @@
 -- Ticks of a table and their places: which ticks are inside, and that the tick S + i has the place
 -- i. Assumes nothing.
-use mathlib.Core.Path.{◌≡◌, sym, ap}
-use mathlib.Core.Bool.{true, false, not}
+use borrow.Author.Tests.{not-false}
+use mathlib.Core.Path.{◌≡◌, refl, sym, ◌∙◌, ap}
+use mathlib.Core.Bool.{Bool, true, false, cond, not}
 use mathlib.Core.List.{List}
 use Prim.Native.Nat.{ℕ, ◌≤◌}
 use native.Mathlib.Omega.{arith}
 use lib.IntN.{ℤ, pos, ◌+ℤ◌, ◌-ℤ◌, nat_abs}
 use lib.Signed.{◌≤ℤ◌, ◌<ℤ◌, le_z, lt_z}
+use Rattle.std.proofs.Common.{Less, Equal, Greater}
+use Rattle.std.specs.Ordering.{int_cmp, is_lt, is_le, is_ge}
 use Rattle.numbers.proofs.Differences.{rep, rep₂, lin, sizes}
 use Rattle.numbers.proofs.Flags.{both, and_right}
-use Rattle.numbers.proofs.Machine.{yes_le, le_yes, no_le, lt_no, not_lt}
+use Rattle.numbers.proofs.Machine.{yes_le, le_yes, no_le, lt_yes, no_lt, not_lt}
 use Rattle.image.specs.declared.table.Table.{Table}
 use Rattle.ephemeris.specs.Table.{S, last_place, tick_at, is_inside, place_of, table_delay, tdb_of}
 use Rattle.ephemeris.specs.Table.{tdb_at}
@@ -30,6 +33,38 @@ after s i = rep (λ s. s ≤ℤ (s +ℤ pos i)) (λ a b. simp lin (omega arith))
 more : (s : ℤ) (i j : ℕ) → i ≤ j → (s +ℤ pos i) ≤ℤ (s +ℤ pos j)
 more s i j h = rep (λ s. (s +ℤ pos i) ≤ℤ (s +ℤ pos j)) (λ a b. simp lin (omega arith)) s
 
+-- ---- as the code compares two ticks of a scale
+less : (b d : Bool) → is_lt (cond b Less (cond d Greater Equal)) ≡ b
+less false false = refl
+less false true = refl
+less true d = refl
+
+not_less : (b d : Bool) → is_ge (cond b Less (cond d Greater Equal)) ≡ not b
+not_less false false = refl
+not_less false true = refl
+not_less true d = refl
+
+at_most : (b d : Bool) → (d ≡ true → b ≡ false) → is_le (cond b Less (cond d Greater Equal)) ≡ not d
+at_most false false h = refl
+at_most false true h = refl
+at_most true false h = refl
+at_most true true h = h refl
+
+pub less_is : (x y : ℤ) → is_lt (int_cmp x y) ≡ lt_z x y
+less_is x y = less (lt_z x y) (lt_z y x)
+
+pub reached : (x y : ℤ) → is_ge (int_cmp x y) ≡ true → y ≤ℤ x
+reached x y e = le_yes y x (sym (not_less (lt_z x y) (lt_z y x) ∙ not_lt x y) ∙ e)
+
+pub unreached : (x y : ℤ) → is_ge (int_cmp x y) ≡ false → x <ℤ y
+unreached x y e = lt_yes x y (not-false (lt_z x y) (sym (not_less (lt_z x y) (lt_z y x)) ∙ e))
+
+pub at_most_is : (x y : ℤ) → is_le (int_cmp x y) ≡ le_z x y
+at_most_is x y = at_most (lt_z x y) (lt_z y x) (λ e. no_lt x y (below (lt_yes y x e))) ∙ not_lt y x
+  where
+    below : y <ℤ x → y ≤ℤ x
+    below = rep₂ (λ y x. y <ℤ x → y ≤ℤ x) (λ a b c d. simp lin (omega arith)) y x
+
 -- ---- inside
 module _ (T : Table) where
   pub inside_both : (t : ℤ) → is_inside T t ≡ true → (S T ≤ℤ t) × (t ≤ℤ tick_at T (last_place T))
@@ -47,13 +82,6 @@ module _ (T : Table) where
   pub after_no : (t : ℤ) → tick_at T (last_place T) <ℤ t → is_inside T t ≡ false
   unfolding is_inside
   after_no t l = and_right (le_z (S T) t) (no_le t (tick_at T (last_place T)) l)
-
-  -- as the code tests it
-  pub inside_is : (t : ℤ) → lt_z t (S T) ≡ false → not (lt_z (tick_at T (last_place T)) t) ≡ is_inside T t
-  unfolding is_inside
-  inside_is t e =
-      let x = yes_le (S T) t (lt_no t (S T) e) in
-      rw (x, not_lt (tick_at T (last_place T)) t)
 
   -- ---- places
   pub placed : (t : ℤ) → is_inside T t ≡ true → place_of T t ≤ last_place T

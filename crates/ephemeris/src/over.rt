@@ -4,8 +4,7 @@ ghost use Rattle.std.specs.Prelude.{◌≡◌};
 ghost use Rattle.ephemeris.specs.Accepted.{Accepted};
 ghost use Rattle.ephemeris.specs.Steps.{tdb_step, tt_step};
 
-use crate::earliest::{covered, earliest_place};
-use crate::places::{inside, place_of, tdb_at, tick_at};
+use crate::places::Opened;
 use crate::tick::near;
 use image::table::Table;
 use linear::steps::{Tdb, Tt};
@@ -27,10 +26,14 @@ impl OverTt {
         ensures { result ≡ tdb_step table coefficients.now self.0.0 }
     {
         let tick = self.0;
-        if !inside(table, tick) {
+        let opened = Opened {
+            table,
+            coefficients,
+        };
+        if !opened.inside(tick) {
             return Err(Outside::Table);
         }
-        let tdb = tdb_at(table, coefficients, place_of(table, tick));
+        let tdb = opened.tdb_at(opened.place_of(tick));
         keep(Scale::Tdb, tdb.0)
     }
 }
@@ -47,9 +50,13 @@ impl OverTdb {
         if !near(asked) {
             return Err(Outside::Table);
         }
-        let place = earliest_place(table, coefficients, asked);
-        if covered(table, coefficients, asked, place) {
-            let tick = tick_at(table, place);
+        let opened = Opened {
+            table,
+            coefficients,
+        };
+        let place = opened.earliest_place(asked);
+        if opened.covered(asked, place) {
+            let tick = opened.tick_at(place);
             return Ok(Epoch {
                 scale: Scale::Tt,
                 tick: tick.0,

@@ -1,25 +1,10 @@
 // The ticks of the two scales. 'A tick of TT and a tick of TDB are never added or compared': each
-// test here is of two ticks of one scale, and D alone, which is a number of ticks and no tick of a
-// scale, leads from one to the other.
+// struct compares its own ticks, and D alone, which is a number of ticks and no tick of a scale,
+// leads from one to the other.
 ghost use Rattle.std.specs.Prelude.{◌≡◌, ◌+ℤ◌, ◌-ℤ◌};
-ghost use Rattle.std.specs.Int.Signed.{lt_z};
 ghost use Rattle.ephemeris.specs.Asked.{Movable, is_near};
 
 use linear::steps::{Tdb, Tt};
-
-// Whether a tick of TT is before another.
-pub fn tt_before(tick: Tt, other: Tt) -> bool
-    ensures { result ≡ lt_z tick.0 other.0 }
-{
-    tick.0 < other.0
-}
-
-// Whether a tick of TDB is before another.
-pub fn tdb_before(tick: Tdb, other: Tdb) -> bool
-    ensures { result ≡ lt_z tick.0 other.0 }
-{
-    tick.0 < other.0
-}
 
 // 'TDB = TT − D'
 pub fn tdb_of(tick: Tt, delay: i64) -> Tdb
@@ -42,5 +27,5 @@ pub fn tt_of(tick: Tdb, delay: i64) -> Tt
 pub fn near(tick: Tdb) -> bool
     ensures { result ≡ is_near tick.0 }
 {
-    -7_000_000_000_000_000_000 <= tick.0 && tick.0 <= 7_000_000_000_000_000_000
+    (-7_000_000_000_000_000_000..=7_000_000_000_000_000_000).contains(&tick.0)
 }

@@ -1,50 +1,44 @@
--- `comparing::alike` meets its contract: a test of two numbers is that they are none apart. Assumes
--- nothing.
+-- `comparing::alike` meets its contract: two numbers are the same where they are none apart.
+-- Assumes nothing.
 use borrow.Author.Rules.{rules}
 use borrow.Author.Tests.{eq-eqb, ne_eqb}
 use mathlib.Core.Path.{◌≡◌, sym, ◌∙◌}
-use mathlib.Core.Bool.{false}
+use Prim.Native.Nat.{◌<◌}
+use native.Mathlib.Omega.{arith}
 use lib.Dec.{eqb}
-use mir.Syntax.{w64}
-use mir.Val.{SFits, of_z}
+use lib.IntN.{ℤ}
+use lib.Signed.{◌<ℤ◌}
+use Rattle.std.proofs.Common.{Ordering, Less, Equal, Greater, int_eq}
+use Rattle.std.specs.Ordering.{int_cmp, is_eq, MatchOrdering}
+use Rattle.std.specs.Cmp.{int_ranks}
 use Rattle.numbers.specs.Signs.{gap}
-use Rattle.numbers.proofs.Machine.{none_apart}
-use Rattle.image.specs.declared.table.Table.{Table}
+use Rattle.numbers.proofs.Differences.{rep₂, sizes}
+use Rattle.numbers.proofs.Machine.{read_is}
+use Rattle.numbers.proofs.Order.{none_gap}
 use Rattle.comparing.specs.Comparing.{is_alike}
 use Rattle.comparing.proofs.alike.Goals as goal
 
-module _ (t u : Table) (start : SFits w64 t.start.0) (other : SFits w64 u.start.0) where
-  starts : eqb (of_z w64 t.start.0) (of_z w64 u.start.0) ≡ eqb (gap t.start.0 u.start.0) 0
-  starts = none_apart t.start.0 u.start.0 start other
+less_apart : (x y : ℤ) → x <ℤ y → 0 < gap x y
+less_apart = rep₂ _ (λ a b c d. simp sizes (omega arith))
 
-  start_unlike : (of_z w64 t.start.0 ≡ of_z w64 u.start.0 → ⊥) → false ≡ is_alike t u
-  unfolding is_alike
-  start_unlike n = let e = sym starts ∙ ne_eqb _ _ n in rw e
+more_apart : (x y : ℤ) → y <ℤ x → 0 < gap x y
+more_apart = rep₂ _ (λ a b c d. simp sizes (omega arith))
 
-  -- the same start
-  module _ (same : of_z w64 t.start.0 ≡ of_z w64 u.start.0) (long : SFits w64 t.length)
-      (short : SFits w64 u.length) where
-    lengths : eqb (of_z w64 t.length) (of_z w64 u.length) ≡ eqb (gap t.length u.length) 0
-    lengths = none_apart t.length u.length long short
-
-    length_unlike : (of_z w64 t.length ≡ of_z w64 u.length → ⊥) → false ≡ is_alike t u
-    unfolding is_alike
-    length_unlike n = let e = sym starts ∙ eq-eqb _ _ same in let d = sym lengths ∙ ne_eqb _ _ n in rw (e, d)
-
-    by_count : of_z w64 t.length ≡ of_z w64 u.length → eqb t.count u.count ≡ is_alike t u
-    unfolding is_alike
-    by_count l = let e = sym starts ∙ eq-eqb _ _ same in let d = sym lengths ∙ eq-eqb _ _ l in rw (e, d)
-
-pub returns-then-start-other : goal.returns-then-start-other
-returns-then-start-other c =
-    start_unlike _ _ (record { sfits = search rules }) (record { sfits = search rules }) c.if-start-other.true
-
-pub returns-then-first-second : goal.returns-then-first-second
-returns-then-first-second c =
-    length_unlike _ _ (record { sfits = search rules }) (record { sfits = search rules }) c.if-start-other.false
-    (record { sfits = search rules }) (record { sfits = search rules }) c.if-first-second.true
+equal_is : (x y : ℤ) → int_eq x y ≡ eqb (gap x y) 0
+equal_is x y = by (int_cmp x y) (int_ranks x y)
+  where
+    by : (r : Ordering) → MatchOrdering r (x <ℤ y) (x ≡ y) (y <ℤ x) → is_eq r ≡ eqb (gap x y) 0
+    by Less h = sym (ne_eqb (gap x y) 0 (λ e. omega (arith, less_apart x y h)))
+    by Equal h = sym (eq-eqb (gap x y) 0 (none_gap x y h))
+    by Greater h = sym (ne_eqb (gap x y) 0 (λ e. omega (arith, more_apart x y h)))
 
 pub returns : goal.returns
+unfolding is_alike
 returns c =
-    by_count _ _ (record { sfits = search rules }) (record { sfits = search rules }) c.if-start-other.false
-    (record { sfits = search rules }) (record { sfits = search rules }) c.if-first-second.false
+    let t = c.args.first in
+    let u = c.args.second in
+    let starts = equal_is t.start.0 u.start.0 in
+    let lengths = equal_is t.length u.length in
+    let long = read_is t.length (record { sfits = search rules }) in
+    let short = read_is u.length (record { sfits = search rules }) in
+    c.eq.ensures ∙ rw (starts, long, short, lengths)

@@ -38,8 +38,8 @@ roomy : (c : Else-not-has_room)
     c.args.table.count)) (length c.args.entries.now) ≡ true
 roomy c = sym c.has_room.ensures ∙ c.if-not-has_room.false
 
-pub has_room-requires : goal.has_room-requires
-has_room-requires c = ready (goal.at.has_room-requires c).Else-not-alike
+pub invariant_of-tables : goal.invariant_of-tables
+invariant_of-tables c = record { pairs = ready (goal.at.invariant_of-tables c).Else-not-alike }
 
 pub returns-then-not-has_room : goal.returns-then-not-has_room
 returns-then-not-has_room c =
@@ -48,11 +48,7 @@ returns-then-not-has_room c =
 
 pub put_changes-changes-requires : goal.put_changes-changes-requires
 put_changes-changes-requires c =
-    record {
-      pairs = ready (goal.at.put_changes-changes-requires c).Else-not-alike;
-      room =
-          leb-true _ _ (roomy (goal.at.put_changes-changes-requires c).Else-not-has_room);
-    }
+    leb-true _ _ (roomy (goal.at.put_changes-changes-requires c).Else-not-has_room)
 
 pub returns : goal.returns
 returns c =

@@ -1,21 +1,14 @@
 -- `ephemeris::tick::near` meets its contract. Assumes nothing.
-use borrow.Author.Rules.{rules}
-use Rattle.numbers.proofs.Machine.{read_is}
-use Rattle.ephemeris.specs.Asked.{is_near}
+use lib.IntN.{pos, neg_ℤ}
+use Rattle.ephemeris.specs.Asked.{furthest_tdb, is_near}
+use Rattle.ephemeris.proofs.Ticks.{at_most_is}
 use Rattle.ephemeris.proofs.tick.near.Goals as goal
 
-pub returns-then-tick-geminus7000000000000000000 : goal.returns-then-tick-geminus7000000000000000000
+pub returns : goal.returns
 unfolding is_near
-returns-then-tick-geminus7000000000000000000 c =
-    let t = c.args.tick.0 in
-    let e = read_is t (search rules) in
-    let h = rw e at c.if-tick-geminus7000000000000000000.true in
-    rw (e, h)
-
-pub returns-else-tick-geminus7000000000000000000 : goal.returns-else-tick-geminus7000000000000000000
-unfolding is_near
-returns-else-tick-geminus7000000000000000000 c =
-    let t = c.args.tick.0 in
-    let e = read_is t (search rules) in
-    let h = rw e at c.if-tick-geminus7000000000000000000.false in
-    rw (e, h)
+returns c =
+    let start = c.new.ensures.start in
+    let end = c.new.ensures.end in
+    let left = c.new.ensures.exhausted in
+    let tick = c.args.tick.0 in
+    rw (c.contains.ensures.value, start, end, left, at_most_is (neg_ℤ (pos furthest_tdb)) tick, at_most_is tick (pos furthest_tdb))

@@ -21,7 +21,8 @@ reached : (T : Table) (cs : List ℤ) (asked tick : ℤ) → is_covered T cs ask
 unfolding tt_step tt_of
 reached T cs asked tick covered e = rw (covered, e)
 
-outside : (T : Table) (cs : List ℤ) (asked : ℤ) → is_covered T cs asked ≡ false → (Err Outside.Table) ≡ tt_step T cs asked
+outside : (T : Table) (cs : List ℤ) (asked : ℤ) → is_covered T cs asked ≡ false
+    → (Err Outside.Table) ≡ tt_step T cs asked
 unfolding tt_step
 outside T cs asked left = rw left
 
@@ -33,20 +34,11 @@ returns-then-not-near c =
 
 pub earliest_place-place-requires : goal.earliest_place-place-requires
 earliest_place-place-requires c =
-    record {
-      accepted = c.requires;
-      near = near_size _ (sym c.near.ensures ∙ c.if-not-near.false);
-    }
-
-pub covered-requires : goal.covered-requires
-covered-requires c = record { accepted = c.requires; is = c.earliest_place-place.ensures }
+    near_size _ (sym c.near.ensures ∙ c.if-not-near.false)
 
 pub tick_at-tick-requires : goal.tick_at-tick-requires
 tick_at-tick-requires c =
-    record {
-      bounds = c.requires.bounds;
-      inside = rw c.earliest_place-place.ensures (earliest_inside c.args.table c.args.coefficients.now c.args.self.0.0);
-    }
+    rw c.earliest_place-place.ensures (earliest_inside c.args.table c.args.coefficients.now c.args.self.0.0)
 
 pub returns-then-covered : goal.returns-then-covered
 returns-then-covered c =

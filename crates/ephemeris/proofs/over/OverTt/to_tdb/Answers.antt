@@ -39,16 +39,9 @@ tdb_is c =
 pub returns-then-not-inside : goal.returns-then-not-inside
 returns-then-not-inside c = outside c.args.table c.args.coefficients.now c.args.self.0.0 (sym c.inside.ensures ∙ c.if-not-inside.true)
 
-pub place_of-requires : goal.place_of-requires
-place_of-requires c = record { bounds = c.requires.bounds; inside = within c }
-
 pub tdb_at-tdb-requires : goal.tdb_at-tdb-requires
 tdb_at-tdb-requires c =
-    record {
-      accepted = c.requires;
-      inside =
-          rw c.place_of.ensures (placed c.args.table c.args.self.0.0 (within (goal.at.tdb_at-tdb-requires c).Else-not-inside));
-    }
+    rw c.place_of.ensures (placed c.args.table c.args.self.0.0 (within (goal.at.tdb_at-tdb-requires c).Else-not-inside))
 
 pub returns : goal.returns
 returns c =
