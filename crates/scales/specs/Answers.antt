@@ -4,7 +4,6 @@ use Rattle.std.specs.Prelude.{◌≡◌, cond, ℕ, ℤ, pos, Result, Ok, Err}
 use Rattle.scales.specs.declared.answer.Converted.{Converted}
 use Rattle.scales.specs.declared.answer.Epoch.{Epoch}
 use Rattle.scales.specs.declared.answer.Outside.{Outside}
-use Rattle.scales.specs.declared.answer.Outside.TheVariants as Outside
 use Rattle.scales.specs.declared.refusal.Refusal.{Refusal}
 use Rattle.scales.specs.declared.scale.Scale.{Scale}
 use Rattle.scales.specs.Scales.{named}

@@ -1,7 +1,7 @@
 -- `scales::path::steps_between` meets its contract. The steps walked, and the path that is left
 -- from where the walk stands, make up the whole path. Assumes nothing.
 use mathlib.Core.Path.{◌≡◌}
-use Prim.Native.Nat.{ℕ, ◌+◌, ◌-◌, ◌≤◌}
+use Prim.Native.Nat.{ℕ, ◌+◌, ◌-◌}
 use lib.ListN.{length}
 use Rattle.scales.specs.declared.scale.Scale.{Scale}
 use Rattle.scales.specs.Path.{path_within, longest_path, steps}
