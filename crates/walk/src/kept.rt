@@ -1,6 +1,6 @@
 // What a path that crosses goes over: a table that has been judged and accepted, with its
 // coefficients. A path that doesn't cross needs none.
-ghost use Rattle.std.specs.Prelude.{◌≡◌, None, Some};
+ghost use Rattle.std.specs.Prelude.{◌≡◌, None, Some, []};
 ghost use Rattle.granules.specs.Accepted.{Accepted};
 ghost use Rattle.walk.specs.Inner.{Held};
 ghost use Rattle.walk.specs.Walk.{to_tdb, to_tt};
@@ -23,6 +23,7 @@ impl<'a> Kept<'a> {
     // Nothing, for a path that doesn't cross.
     pub fn nothing() -> Kept<'a>
         ensures table { result.table ≡ None }
+        ensures coefficients { result.coefficients.now ≡ [] }
     {
         Kept {
             table: None,
