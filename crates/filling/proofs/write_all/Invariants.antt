@@ -6,4 +6,4 @@ use Rattle.filling.proofs.Writing.{Walked}
 use Rattle.filling.proofs.write_all.Given as goal
 
 abbrev pub invariant-loop-done : goal.invariant-loop-done
-invariant-loop-done l = Walked l.kept l.coefficients l.initial.scale l.to l.ticks l.done l.scale l.answers
+invariant-loop-done l = Walked l.kept.table l.kept.coefficients.now l.initial.scale l.to l.ticks l.done l.scale l.answers
