@@ -13,6 +13,7 @@ use filling::batch_over;
 use image::table::Table;
 use opened::{how_many, taken};
 use scales::scale::{Purpose, Scale};
+use walk::kept::Kept;
 
 // Over the table that the bytes hold. They have been judged and accepted.
 fn batch_taken(
@@ -34,8 +35,7 @@ fn batch_taken(
         to,
         ticks,
         answers,
-        Some(table),
-        &coefficients[..many],
+        Kept::over(table, &coefficients[..many]),
     )
 }
 
@@ -63,7 +63,7 @@ pub fn batch(from: u32, to: u32, ticks: &[i64], answers: &mut [i64], table: &[u8
 {
     let fits = ticks.len() == answers.len();
     match asked_of(Purpose::Batch, Purpose::Batch, from, to, fits, true)? {
-        Asked::Plain(start, end) => batch_over(start, end, ticks, answers, None, &[]),
+        Asked::Plain(start, end) => batch_over(start, end, ticks, answers, Kept::nothing()),
         Asked::Crossing(start, end) => batch_crossing(start, end, ticks, answers, table),
     }
 }
