@@ -57,7 +57,13 @@ fn batch_crossing(
 
 // Converts ticks of the scale of the first code into ticks of the scale of the second, over the
 // table that the bytes hold: all of them, or none and the refusal.
-pub fn batch(from: u32, to: u32, ticks: &[i64], answers: &mut [i64], table: &[u8]) -> Result<u32, RefusedAt>
+pub fn batch(
+    from: u32,
+    to: u32,
+    ticks: &[i64],
+    answers: &mut [i64],
+    table: &[u8],
+) -> Result<u32, RefusedAt>
     ensures { HasConverted from to ticks.now answers.old
         answers.new table.now result }
 {

@@ -20,14 +20,25 @@ use walk::kept::Kept;
 use walk::walk::walk;
 
 // What was read, walked.
-pub fn between(from: Scale, to: Scale, read: Result<i64, Refusal>, kept: Kept<'_>) -> Result<Converted, Refusal>
+pub fn between(
+    from: Scale,
+    to: Scale,
+    read: Result<i64, Refusal>,
+    kept: Kept<'_>,
+) -> Result<Converted, Refusal>
     ensures { result ≡ between_of from to read kept.entry.table kept.entry.coefficients.now }
 {
     walk(from, to, read?, kept)
 }
 
 // Over the table that the bytes hold. They have been judged and accepted.
-fn taken_over(from: Scale, to: Scale, read: Result<i64, Refusal>, bytes: &[u8], table: Table) -> Result<Converted, Refusal>
+fn taken_over(
+    from: Scale,
+    to: Scale,
+    read: Result<i64, Refusal>,
+    bytes: &[u8],
+    table: Table,
+) -> Result<Converted, Refusal>
     requires { Opened bytes.now table }
     ensures { result ≡ taken_over from to read bytes.now table }
 {
@@ -38,7 +49,12 @@ fn taken_over(from: Scale, to: Scale, read: Result<i64, Refusal>, bytes: &[u8], 
 
 // Over any bytes. This has room for the largest table, which no other conversion should pay for: a
 // compiler keeps it apart as long as two functions call it, one for a tick and one for a refusal.
-fn over_bytes(from: Scale, to: Scale, read: Result<i64, Refusal>, bytes: &[u8]) -> Result<Converted, Refusal>
+fn over_bytes(
+    from: Scale,
+    to: Scale,
+    read: Result<i64, Refusal>,
+    bytes: &[u8],
+) -> Result<Converted, Refusal>
     ensures { result ≡ over_bytes from to read bytes.now }
 {
     let table = judge(bytes)?;
@@ -98,13 +114,25 @@ pub fn convert_into(
 }
 
 // The same into ticks.
-pub fn convert(from: u32, to: u32, reading: Reading, leaps: &[i64], table: &[u8]) -> Result<Converted, Refusal>
+pub fn convert(
+    from: u32,
+    to: u32,
+    reading: Reading,
+    leaps: &[i64],
+    table: &[u8],
+) -> Result<Converted, Refusal>
     ensures { result ≡ convert_of from to reading leaps.now table.now }
 {
     convert_into(Purpose::Reading, from, to, reading, leaps, table)
 }
 
-fn crossed(from: Scale, to: Scale, read: Result<i64, Refusal>, judged: Result<Table, Refusal>, coefficients: &[i64]) -> Result<Converted, Refusal>
+fn crossed(
+    from: Scale,
+    to: Scale,
+    read: Result<i64, Refusal>,
+    judged: Result<Table, Refusal>,
+    coefficients: &[i64],
+) -> Result<Converted, Refusal>
     requires { Lent judged coefficients.now }
     ensures { result ≡ crossed_of from to read judged coefficients.now }
 {

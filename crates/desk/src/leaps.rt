@@ -23,7 +23,13 @@ fn uses_leaps(reads: Purpose, writes: Purpose) -> bool
 // What is asked, with the list that is lent: 'a flat list of odd length is 8', and refusal '7
 // exactly when the list breaks a rule'. Where neither code is read for UTC the list is not looked
 // at, and a compiler has that case by itself: it is every other conversion's.
-pub fn asked_over(reads: Purpose, writes: Purpose, from: u32, to: u32, leaps: &[i64]) -> Result<Asked, Refusal>
+pub fn asked_over(
+    reads: Purpose,
+    writes: Purpose,
+    from: u32,
+    to: u32,
+    leaps: &[i64],
+) -> Result<Asked, Refusal>
     ensures { result
         ≡ asked_of reads writes from to
         (leaps_fit reads writes leaps.now) (leaps_right reads writes leaps.now) }

@@ -17,13 +17,7 @@ use walk::kept::Kept;
 
 // Writes every entry's tick. All have been tried and accepted, so that the path is walked once,
 // each step over the whole list.
-fn write_all(
-    from: Scale,
-    to: Scale,
-    ticks: &[i64],
-    answers: &mut [i64],
-    kept: Kept<'_>,
-)
+fn write_all(from: Scale, to: Scale, ticks: &[i64], answers: &mut [i64], kept: Kept<'_>)
     requires { Tried from to ticks.now answers.old kept.table kept.coefficients.now }
     ensures { answers.new
         ≡ ticks_by (entry_of from to kept.entry.table kept.entry.coefficients.now) ticks.now }

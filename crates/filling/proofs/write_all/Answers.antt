@@ -1,11 +1,10 @@
 use mathlib.Core.Path.{sym, ◌∙◌}
-use Prim.Native.Nat.{zero-le}
-use borrow.Author.Rules.{rules}
+use native.Mathlib.Omega.{arith}
 use Rattle.filling.proofs.Writing.{walked_none, walked_more, walked_here, walked_all}
 use Rattle.filling.proofs.write_all.Goals as goal
 
 pub copy_from_slice-requires : goal.copy_from_slice-requires
-copy_from_slice-requires c = c.requires.long
+copy_from_slice-requires c = omega (arith, c.requires.long)
 
 pub loop-done-init : goal.loop-done-init
 loop-done-init c = rw c.copy_from_slice.ensures.after (walked_none _ _ _ _ _ c.requires.steps c.requires.accepted)

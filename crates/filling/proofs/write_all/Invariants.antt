@@ -1,7 +1,5 @@
 -- `filling::write_all` meets its contract: what is left of each entry's walk, from where
 -- the list stands, is that entry's conversion. Assumes nothing.
-use Prim.Native.Nat.{◌-◌, ◌≤◌}
-use Rattle.scales.specs.Path.{longest_path}
 use Rattle.filling.proofs.Writing.{Walked}
 use Rattle.filling.proofs.write_all.Given as goal
 

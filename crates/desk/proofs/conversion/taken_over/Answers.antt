@@ -17,5 +17,5 @@ pub over-requires : goal.over-requires
 over-requires c = rw (c.how_many-many.ensures, c.taken-coefficients.ensures.front) (accepted_of _ _ c.requires.accepted)
 
 pub returns : goal.returns
-returns c = 
+returns c =
     rw (c.over.ensures.table, c.over.ensures.coefficients, c.how_many-many.ensures, c.taken-coefficients.ensures.front) at c.between.ensures
