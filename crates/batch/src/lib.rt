@@ -13,6 +13,7 @@ use filling::batch_over;
 use image::table::Table;
 use opened::{how_many, taken};
 use scales::scale::{Purpose, Scale};
+use walk::kept::Kept;
 
 // Over the table that the bytes hold. They have been judged and accepted.
 fn batch_taken(
@@ -29,7 +30,13 @@ fn batch_taken(
 {
     let coefficients = taken(bytes, table);
     let many = how_many(table);
-    batch_over(from, to, ticks, answers, Some(table), &coefficients[..many])
+    batch_over(
+        from,
+        to,
+        ticks,
+        answers,
+        Kept::over(table, &coefficients[..many]),
+    )
 }
 
 // 'then the table 10 to 16'. The lists have been found of equal length.
@@ -62,7 +69,7 @@ pub fn batch(
 {
     let fits = ticks.len() == answers.len();
     match asked_of(Purpose::Batch, Purpose::Batch, from, to, fits, true)? {
-        Asked::Plain(start, end) => batch_over(start, end, ticks, answers, None, &[]),
+        Asked::Plain(start, end) => batch_over(start, end, ticks, answers, Kept::nothing()),
         Asked::Crossing(start, end) => batch_crossing(start, end, ticks, answers, table),
     }
 }

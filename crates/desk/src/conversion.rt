@@ -2,7 +2,6 @@
 // TDB, .. then 2 .., 3 .., 4, then step by step, 6 before 4.' Of UTC 8 and 7 come before the table,
 // and 5 after 3.
 ghost use Rattle.std.specs.Prelude.{◌≡◌};
-ghost use Rattle.walk.specs.Inner.{Held};
 ghost use Rattle.opened.specs.Opened.{Opened, Lent};
 ghost use Rattle.desk.specs.Conversion.{between_of, convert_into, convert_of, convert_judged};
 ghost use Rattle.desk.specs.Inner.{asked_over, crossed_of, over_bytes, taken_over};
@@ -17,21 +16,19 @@ use scales::answer::{Converted, Epoch};
 use scales::path::is_one_scale;
 use scales::refusal::Refusal;
 use scales::scale::{Purpose, Scale};
+use walk::kept::Kept;
 use walk::walk::walk;
 
-// What was read, walked. The coefficients are those of the table that is kept.
+// What was read, walked.
 pub fn between(
     from: Scale,
     to: Scale,
     read: Result<i64, Refusal>,
-    kept: Option<Table>,
-    coefficients: &[i64],
+    kept: Kept<'_>,
 ) -> Result<Converted, Refusal>
-    requires { Held kept coefficients.now }
-    ensures { result ≡ between_of from to read kept coefficients.now }
+    ensures { result ≡ between_of from to read kept.entry.table kept.entry.coefficients.now }
 {
-    let tick = read?;
-    walk(from, to, tick, kept, coefficients)
+    walk(from, to, read?, kept)
 }
 
 // Over the table that the bytes hold. They have been judged and accepted.
@@ -47,7 +44,7 @@ fn taken_over(
 {
     let coefficients = taken(bytes, table);
     let many = how_many(table);
-    between(from, to, read, Some(table), &coefficients[..many])
+    between(from, to, read, Kept::over(table, &coefficients[..many]))
 }
 
 // Over any bytes. This has room for the largest table, which no other conversion should pay for: a
@@ -69,7 +66,7 @@ fn convert_tick(asked: Asked, tick: i64, table: &[u8]) -> Result<Converted, Refu
     ensures { result ≡ asked_over (Ok asked) (Ok tick) table.now }
 {
     match asked {
-        Asked::Plain(start, end) => walk(start, end, tick, None, &[]),
+        Asked::Plain(start, end) => walk(start, end, tick, Kept::nothing()),
         Asked::Crossing(start, end) => over_bytes(start, end, Ok(tick), table),
     }
 }
@@ -139,7 +136,7 @@ fn crossed(
     requires { Lent judged coefficients.now }
     ensures { result ≡ crossed_of from to read judged coefficients.now }
 {
-    between(from, to, read, Some(judged?), coefficients)
+    between(from, to, read, Kept::over(judged?, coefficients))
 }
 
 // The same of a tick over table bytes that have been judged, for callers that convert line by line.
@@ -158,7 +155,7 @@ pub fn convert_judged(
 {
     let read = ranged(tick);
     match asked_of(purpose, purpose, from, to, true, true)? {
-        Asked::Plain(start, end) => between(start, end, read, None, &[]),
+        Asked::Plain(start, end) => between(start, end, read, Kept::nothing()),
         Asked::Crossing(start, end) => crossed(start, end, read, judged, coefficients),
     }
 }

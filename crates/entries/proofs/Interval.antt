@@ -26,7 +26,8 @@ use Rattle.entries.specs.declared.trying.Ends.{Ends}
 use Rattle.entries.specs.Entries.{entry_of, tried_of, all_tried}
 use Rattle.desk.specs.Conversion.{started, between_of}
 use Rattle.walk.specs.Inner.{Held}
-use Rattle.entries.specs.Inner.{sooner_of, later_of, ends_of, is_accepted}
+use Rattle.std.specs.Int.{int_min, int_max}
+use Rattle.entries.specs.Inner.{ends_of, is_accepted}
 use Rattle.walk.specs.Walk.{step_of, after_step, walk_of, walk_between}
 use Rattle.walk.proofs.OneStep.{valid_within, step_order, step_within}
 use Rattle.walk.proofs.Steps.{not_both, Answered, stepping}
@@ -86,29 +87,29 @@ module _ (kept : Option Table) (cs : List ℤ) where
 less : (x y : ℤ) → x <ℤ y → x ≤ℤ y
 less = rep₂ _ (λ a b c d. simp lin (omega arith))
 
-sooner_both : (x y : ℤ) → (sooner_of x y ≤ℤ x) × (sooner_of x y ≤ℤ y)
-sooner_both x y = by (lt_z y x) refl
+min_both : (x y : ℤ) → (int_min x y ≤ℤ x) × (int_min x y ≤ℤ y)
+min_both x y = by (lt_z y x) refl
   where
     by : (before : Bool) → lt_z y x ≡ before → (cond before y x ≤ℤ x) × (cond before y x ≤ℤ y)
     by true e = (less y x (lt_yes y x e), ≤ℤ_refl y)
     by false e = (≤ℤ_refl x, lt_no y x e)
 
-later_both : (x y : ℤ) → (x ≤ℤ later_of x y) × (y ≤ℤ later_of x y)
-later_both x y = by (lt_z x y) refl
+max_both : (x y : ℤ) → (x ≤ℤ int_max x y) × (y ≤ℤ int_max x y)
+max_both x y = by (lt_z y x) refl
   where
-    by : (before : Bool) → lt_z x y ≡ before → (x ≤ℤ cond before y x) × (y ≤ℤ cond before y x)
-    by true e = (less x y (lt_yes x y e), ≤ℤ_refl y)
-    by false e = (≤ℤ_refl x, lt_no x y e)
+    by : (before : Bool) → lt_z y x ≡ before → (x ≤ℤ cond before x y) × (y ≤ℤ cond before x y)
+    by true e = (≤ℤ_refl x, less y x (lt_yes y x e))
+    by false e = (lt_no y x e, ≤ℤ_refl y)
 
 around : (earliest latest : ℤ) (ticks : List ℤ)
     → ((ends_of earliest latest ticks).earliest ≤ℤ earliest) × (latest ≤ℤ (ends_of earliest latest ticks).latest)
 unfolding ends_of
 around earliest latest [] = (≤ℤ_refl earliest, ≤ℤ_refl latest)
 around earliest latest (tick ∷ more) =
-    let ends = ends_of (sooner_of earliest tick) (later_of latest tick) more in
-    let a = around (sooner_of earliest tick) (later_of latest tick) more in (
-      ≤_trans ends.earliest (sooner_of earliest tick) earliest a.0 (sooner_both earliest tick).0,
-      ≤_trans latest (later_of latest tick) ends.latest (later_both latest tick).0 a.1,
+    let ends = ends_of (int_min earliest tick) (int_max latest tick) more in
+    let a = around (int_min earliest tick) (int_max latest tick) more in (
+      ≤_trans ends.earliest (int_min earliest tick) earliest a.0 (min_both earliest tick).0,
+      ≤_trans latest (int_max latest tick) ends.latest (max_both latest tick).0 a.1,
     )
 
 -- so that where both are accepted all are
@@ -122,13 +123,13 @@ module _ (kept : Option Table) (cs : List ℤ) (h : Held kept cs) (from to : Sca
   unfolding tried_of ends_of
   tried_within earliest latest index [] early late = refl
   tried_within earliest latest index (tick ∷ more) early late =
-      let e = sooner_of earliest tick in
-      let l = later_of latest tick in
+      let e = int_min earliest tick in
+      let l = int_max latest tick in
       let ends = ends_of e l more in
       let a = around e l more in
       let here =
-      entry_within kept cs from to h ends.earliest tick ends.latest early late (≤_trans ends.earliest e tick a.0 (sooner_both earliest tick).1)
-      (≤_trans tick l ends.latest (later_both latest tick).1 a.1) in
+      entry_within kept cs from to h ends.earliest tick ends.latest early late (≤_trans ends.earliest e tick a.0 (min_both earliest tick).1)
+      (≤_trans tick l ends.latest (max_both latest tick).1 a.1) in
       rw here.2 (tried_within e l (suc index) more early late)
 
   pub ends_accepted : (first : ℤ) (ticks : List ℤ) (ends : Ends) → ends ≡ ends_of first first ticks

@@ -17,7 +17,8 @@ use Rattle.scales.specs.declared.scale.Scale.{Scale}
 use Rattle.dates.specs.Readings.{in_range}
 use Rattle.desk.specs.Conversion.{between_of}
 use Rattle.entries.specs.Entries.{entry_of, earlier, tried_of}
-use Rattle.entries.specs.Inner.{sooner_of, later_of, ends_of}
+use Rattle.std.specs.Int.{int_min, int_max}
+use Rattle.entries.specs.Inner.{ends_of}
 
 -- ---- the entries that are left, from an index on
 module _ (entry : ℤ → Answer) (steps : ℕ) (ticks : List ℤ) (index : ℕ) where
@@ -50,7 +51,7 @@ module _ (entry : ℤ → Answer) (steps : ℕ) (ticks : List ℤ) (index : ℕ)
 module _ (earliest latest : ℤ) (ticks : List ℤ) (index : ℕ) where
   pub wider : index < length ticks → let tick = get_or ticks index (pos 0) in
       ends_of earliest latest (drop index ticks)
-      ≡ ends_of (sooner_of earliest tick) (later_of latest tick) (drop (index + 1) ticks)
+      ≡ ends_of (int_min earliest tick) (int_max latest tick) (drop (index + 1) ticks)
   unfolding ends_of
   wider h = rw (drop-cons ticks index (pos 0) h, add-one)
 

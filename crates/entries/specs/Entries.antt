@@ -1,7 +1,7 @@
 -- The entries of a batch: 'All are tried first; the earliest refusal is the batch's, with its
 -- index'.
 use Rattle.entries.specs.Batched.{Batched, refused_at}
-use Rattle.scales.specs.Answers.{Answer, converted_to}
+use Rattle.scales.specs.Answers.{Answer}
 use Rattle.image.specs.declared.table.Table.{Table}
 use Rattle.std.specs.Prelude.{Err, Ok, Option, List, [], ◌∷◌, ℕ, suc, ℤ}
 use Rattle.scales.specs.declared.scale.Scale.{Scale}

@@ -2,5 +2,5 @@
 // the crates below know; what is asked and in which order it is refused, the desk.
 #![tactic(auto)]
 
-pub mod step;
+pub mod kept;
 pub mod walk;

@@ -1,10 +1,8 @@
 // The walk: 'A conversion walks the only path and rounds at every step.'
 ghost use Rattle.std.specs.Prelude.{◌≡◌};
 ghost use Rattle.walk.specs.Walk.{step_of, walk_between, answer_refused};
-ghost use Rattle.walk.specs.Inner.{Held};
 
-use crate::step::{to_tdb, to_tt};
-use image::table::Table;
+use crate::kept::Kept;
 use linear::steps::{along, back};
 use scales::answer::{Converted, Epoch, Outside};
 use scales::path::{Edge, LONGEST_PATH, Step, next_step};
@@ -17,40 +15,21 @@ fn refused(number: u32, place: u64) -> Result<Converted, Refusal>
     Err(Refusal { number, place })
 }
 
-// The step from an epoch of the scale in which it begins. What is kept has been judged and
-// accepted.
-fn take_step(
-    step: Step,
-    epoch: Epoch,
-    kept: Option<Table>,
-    coefficients: &[i64],
-) -> Result<Epoch, Outside>
-    requires { Held kept coefficients.now }
-    ensures { result ≡ step_of kept coefficients.now step epoch.tick }
+// The step from an epoch of the scale in which it begins.
+fn take_step(step: Step, epoch: Epoch, kept: Kept<'_>) -> Result<Epoch, Outside>
+    ensures { result ≡ step_of kept.entry.table kept.entry.coefficients.now step epoch.tick }
 {
     match step {
-        Step::Along(edge) => match edge {
-            Edge::Linear(line) => along(line, epoch),
-            Edge::Table => to_tdb(epoch, kept, coefficients),
-        },
-        Step::Back(edge) => match edge {
-            Edge::Linear(line) => back(line, epoch),
-            Edge::Table => to_tt(epoch, kept, coefficients),
-        },
+        Step::Along(Edge::Linear(line)) => along(line, epoch),
+        Step::Along(Edge::Table) => kept.to_tdb(epoch),
+        Step::Back(Edge::Linear(line)) => back(line, epoch),
+        Step::Back(Edge::Table) => kept.to_tt(epoch),
     }
 }
 
-// From epoch to epoch until the path is at its end: 'step by step, 6 before 4'. The coefficients
-// are those of the table that is kept.
-pub fn walk(
-    from: Scale,
-    to: Scale,
-    start: i64,
-    kept: Option<Table>,
-    coefficients: &[i64],
-) -> Result<Converted, Refusal>
-    requires { Held kept coefficients.now }
-    ensures { result ≡ walk_between kept coefficients.now from to start }
+// From epoch to epoch until the path is at its end: 'step by step, 6 before 4'.
+pub fn walk(from: Scale, to: Scale, start: i64, kept: Kept<'_>) -> Result<Converted, Refusal>
+    ensures { result ≡ walk_between kept.entry.table kept.entry.coefficients.now from to start }
 {
     let mut epoch = Epoch {
         scale: from,
@@ -60,7 +39,7 @@ pub fn walk(
         let Some(step) = next_step(epoch.scale, to) else {
             return Ok(Converted { epoch, steps });
         };
-        match take_step(step, epoch, kept, coefficients) {
+        match take_step(step, epoch, kept) {
             Ok(next) => {
                 epoch = next;
             }

@@ -1,5 +1,5 @@
 -- `batch::batch` meets its contract. Assumes nothing.
-use Rattle.std.specs.Prelude.{Ok, Err}
+use Rattle.std.specs.Prelude.{Ok}
 use Rattle.scales.proofs.PassedOn.{passed_on}
 use mathlib.Core.Path.{◌≡◌, sym, ◌∙◌, ap}
 use borrow.Author.Tests.{eqb-true}
@@ -10,7 +10,6 @@ use Rattle.scales.specs.declared.scale.Purpose.TheVariants as P
 use Rattle.desk.specs.declared.asked.Asked.TheVariants as A
 use Rattle.desk.specs.Inner.{asked_of}
 use Rattle.desk.proofs.Asking.{sound}
-use Rattle.walk.proofs.Holding.{nothing_held}
 use Rattle.batch.proofs.Batches.{batch_fits, asked_alone, has_refused, has_converted}
 use Rattle.batch.proofs.batch.Goals as goal
 use Rattle.batch.proofs.batch.Goals.{In-Crossing, In-Plain}
@@ -36,7 +35,7 @@ module _ (c : In-Crossing) where
   long2 = sym (eqb-true _ _ (batch_fits _ _ _ _ crossing (sound _)))
 
 pub batch_over-requires : goal.batch_over-requires
-batch_over-requires c = record { held = nothing_held _; long = long (goal.at.batch_over-requires c).In-Plain }
+batch_over-requires c = long (goal.at.batch_over-requires c).In-Plain
 
 pub batch_crossing-requires : goal.batch_crossing-requires
 batch_crossing-requires c = long2 (goal.at.batch_crossing-requires c).In-Crossing
@@ -44,7 +43,8 @@ batch_crossing-requires c = long2 (goal.at.batch_crossing-requires c).In-Crossin
 pub returns-in-Plain : goal.returns-in-Plain
 returns-in-Plain c =
     has_converted _ _ _ _ _ _ (plain (goal.at.returns-in-Plain c).In-Plain)
-    (asked_alone _ _ _ _ (plain (goal.at.returns-in-Plain c).In-Plain) (sound _)) c.batch_over.ensures
+    (asked_alone _ _ _ _ (plain (goal.at.returns-in-Plain c).In-Plain) (sound _))
+    (rw (c.nothing.ensures.table, c.nothing.ensures.coefficients) at c.batch_over.ensures)
 
 pub returns-in-Crossing : goal.returns-in-Crossing
 returns-in-Crossing c =

@@ -1,5 +1,4 @@
 -- `batch::batch_crossing` meets its contract. Assumes nothing.
-use Rattle.std.specs.Prelude.{Ok, Err}
 use Rattle.scales.proofs.PassedOn.{passed_on}
 use mathlib.Core.Path.{sym, ◌∙◌}
 use Rattle.batch.proofs.Batches.{filled_taken, filled_judged}

@@ -1,5 +1,4 @@
 -- `filling::batch_over` meets its contract: it tries all before it writes any. Assumes nothing.
-use Rattle.std.specs.Prelude.{Ok, Err}
 use Rattle.scales.proofs.PassedOn.{passed_on}
 use mathlib.Core.Path.{sym, ◌∙◌}
 use Rattle.filling.proofs.Filling.{filled_not, filled_all}

@@ -1,23 +1,19 @@
 use mathlib.Core.Path.{sym, ◌∙◌}
-use Prim.Native.Nat.{zero-le}
-use borrow.Author.Rules.{rules}
+use native.Mathlib.Omega.{arith}
 use Rattle.filling.proofs.Writing.{walked_none, walked_more, walked_here, walked_all}
 use Rattle.filling.proofs.write_all.Goals as goal
 
-pub copy_all-requires : goal.copy_all-requires
-copy_all-requires c = c.requires.ready.long
+pub copy_from_slice-requires : goal.copy_from_slice-requires
+copy_from_slice-requires c = omega (arith, c.requires.long)
 
 pub loop-done-init : goal.loop-done-init
-loop-done-init c = rw c.copy_all.ensures (walked_none _ _ _ _ _ c.requires.steps c.requires.accepted)
+loop-done-init c = rw c.copy_from_slice.ensures.after (walked_none _ _ _ _ _ c.requires.steps c.requires.accepted)
 
 pub shape_of-answers-in_default : goal.shape_of-answers-in_default
-shape_of-answers-in_default c = c.loop-done.invariant.long ∙ sym c.requires.ready.long
+shape_of-answers-in_default c = c.loop-done.invariant.long ∙ sym c.requires.long
 
 pub returns-in_default : goal.returns-in_default
 returns-in_default c = walked_here _ _ _ _ _ _ _ _ c.loop-done.invariant c.loop-done-test.true (sym c.next_step.ensures ∙ c.in_default.is)
-
-pub step_all-requires : goal.step_all-requires
-step_all-requires c = c.requires.ready.held
 
 pub loop-done-preserved : goal.loop-done-preserved
 loop-done-preserved c =
@@ -25,7 +21,7 @@ loop-done-preserved c =
     (walked_more _ _ _ _ _ c.requires.steps c.requires.accepted _ _ _ _ c.loop-done-test.true (sym c.next_step.ensures ∙ c.in-Some.is) c.loop-done.invariant)
 
 pub shape_of-answers : goal.shape_of-answers
-shape_of-answers c = c.loop-done.invariant.long ∙ sym c.requires.ready.long
+shape_of-answers c = c.loop-done.invariant.long ∙ sym c.requires.long
 
 pub returns : goal.returns
 returns c = walked_all _ _ _ _ _ _ _ _ c.loop-done.invariant c.loop-done-test.false

@@ -2,7 +2,7 @@
 -- so that the list is right where a UTC reading goes by it; and where both scales are one the path
 -- has no step. Assumes nothing.
 use Rattle.scales.specs.Answers.{Read, converted_to}
-use Rattle.std.specs.Prelude.{None, Ok, Err, Result}
+use Rattle.std.specs.Prelude.{None, Ok, Result}
 use borrow.Author.Rules.{rules}
 use mathlib.Core.Path.{◌≡◌, refl, sym, ◌∙◌, ap}
 use mathlib.Core.Bool.{true}

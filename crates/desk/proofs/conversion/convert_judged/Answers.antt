@@ -8,15 +8,11 @@ use mir.Syntax.{w64}
 use mir.ValLaws.{to_z-of_z}
 use Rattle.dates.specs.Readings.{in_range}
 use Rattle.desk.proofs.Asking.{of_tick}
-use Rattle.walk.proofs.Holding.{nothing_held}
 use Rattle.desk.proofs.conversion.convert_judged.Goals as goal
 use Rattle.desk.proofs.conversion.convert_judged.Goals.{After-ranged-read, In_ok-start}
 
 was : (c : After-ranged-read) → c.ranged-read.result ≡ in_range c.args.tick
 was c = c.ranged-read.ensures ∙ ap in_range (to_z-of_z w64 _ c.ranges.tick)
-
-pub between-requires : goal.between-requires
-between-requires c = nothing_held _
 
 pub returns-in_err-start : goal.returns-in_err-start
 returns-in_err-start c =
@@ -29,7 +25,7 @@ asks c = sym c.asked_of.ensures ∙ c.in_ok-start.was
 
 pub returns-in-Plain : goal.returns-in-Plain
 returns-in-Plain c =
-    c.between.ensures
+    rw (c.nothing.ensures.table, c.nothing.ensures.coefficients) at c.between.ensures
     ∙ of_tick _ _ _ _ _ _ _ _ (asks (goal.at.returns-in-Plain c).In_ok-start ∙ ap Ok c.in-Plain.is) (was (goal.at.returns-in-Plain c).After-ranged-read)
 
 pub returns-in-Crossing : goal.returns-in-Crossing

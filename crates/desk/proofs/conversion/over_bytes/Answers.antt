@@ -1,5 +1,5 @@
 -- `desk::conversion::over_bytes` meets its contract. Assumes nothing.
-use Rattle.std.specs.Prelude.{Ok, Err}
+use Rattle.std.specs.Prelude.{Ok}
 use Rattle.scales.proofs.PassedOn.{passed_on}
 use mathlib.Core.Path.{◌≡◌, sym, ◌∙◌}
 use Rattle.blocks.specs.Judging.{judged}

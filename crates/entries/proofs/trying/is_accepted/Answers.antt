@@ -10,7 +10,7 @@ use Rattle.entries.proofs.trying.is_accepted.Goals.{After-between}
 
 -- the answer is that of the tick as it was given
 told : (c : After-between) → c.between.result
-    ≡ entry_of c.args.from c.args.to c.args.kept c.args.coefficients.now c.args.tick
+    ≡ entry_of c.args.from c.args.to c.args.kept.table c.args.kept.coefficients.now c.args.tick
 told c =
     rw (c.ranged.ensures, to_z-of_z w64 _ c.ranges.tick) at c.between.ensures ∙ entry_read _ _ _ _ _
 

@@ -24,6 +24,6 @@ as_read from to kept coefficients e accepted = rw e at accepted
 pub returns-then-latest : goal.returns-then-latest
 returns-then-latest c =
     ap Ok c.steps_between.ensures
-    ∙ sym (ends_accepted _ _ c.requires _ _ _ _ _ c.ends_of-ends.ensures
+    ∙ sym (ends_accepted _ _ c.args.kept.held _ _ _ _ _ c.ends_of-ends.ensures
     (as_read _ _ _ _ (to_z-of_z w64 c.ends_of-ends.result.earliest (record { sfits = search rules })) (sym c.is_accepted-earliest.ensures ∙ c.if-earliest.true))
     (as_read _ _ _ _ (to_z-of_z w64 c.ends_of-ends.result.latest (record { sfits = search rules })) (sym c.is_accepted-latest.ensures ∙ c.if-latest.true)))

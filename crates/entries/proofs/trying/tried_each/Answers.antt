@@ -1,4 +1,4 @@
-use Rattle.std.specs.Prelude.{Ok, Err}
+use Rattle.std.specs.Prelude.{Ok}
 use mathlib.Core.Path.{◌≡◌, refl, sym, ◌∙◌, ap}
 use Prim.Native.Nat.{zero-le}
 use borrow.Author.Rules.{rules}
@@ -19,8 +19,8 @@ module _ (c : After-between) where
   start = (goal.at.After-between c).Start
 
   -- the answer is that of the entry at the loop's index
-  entry_is : c.between.result ≡ entry_of start.args.from start.args.to start.args.kept
-      start.args.coefficients.now
+  entry_is : c.between.result ≡ entry_of start.args.from start.args.to start.args.kept.table
+      start.args.kept.coefficients.now
       (get_or start.args.ticks.now c.loop-index.index (pos 0))
   entry_is =
       rw (c.ranged.ensures, to_z-of_z w64 (get_or start.args.ticks.now c.loop-index.index (pos 0)) (record { sfits = search rules })) at c.between.ensures

@@ -10,8 +10,8 @@ use Rattle.entries.proofs.trying.tried_each.Given as goal
 abbrev pub invariant-loop-index : goal.invariant-loop-index
 invariant-loop-index l =
     (l.index ≤ length l.ticks)
-    × (all_tried l.from l.to l.ticks l.kept l.coefficients
-    ≡ tried_of (entry_of l.from l.to l.kept l.coefficients) (steps l.from l.to) l.index (drop l.index l.ticks))
+    × (all_tried l.from l.to l.ticks l.kept.table l.kept.coefficients.now
+    ≡ tried_of (entry_of l.from l.to l.kept.table l.kept.coefficients.now) (steps l.from l.to) l.index (drop l.index l.ticks))
 
 abbrev pub decreases-loop-index : goal.decreases-loop-index
 decreases-loop-index l = length l.ticks - l.index

@@ -1,6 +1,5 @@
 use Rattle.scales.specs.Answers.{Answer, converted_to}
 use Rattle.std.specs.Prelude.{Some, Err}
-use borrow.Author.Rules.{rules}
 use mathlib.Core.Path.{◌≡◌, refl, sym, ◌∙◌, ap}
 use Prim.Native.Nat.{ℕ, ◌+◌}
 use lib.IntN.{ℤ}
@@ -15,12 +14,12 @@ use Rattle.walk.proofs.walk.walk.Goals.{After-take_step, At-loop-steps}
 
 -- what is left at the head of the loop is the whole walk
 whole : (c : At-loop-steps) → let s = c.args in
-    walk_left s.kept s.coefficients.now s.to c.loop-steps.steps c.loop-steps.epoch
-    ≡ walk_between s.kept s.coefficients.now s.from s.to s.start
+    walk_left s.kept.table s.kept.coefficients.now s.to c.loop-steps.steps c.loop-steps.epoch
+    ≡ walk_between s.kept.table s.kept.coefficients.now s.from s.to s.start
 whole c =
     let s = c.args in
-    let at : ℤ → Answer = λ tick. walk_left s.kept s.coefficients.now s.to 0 (record { scale = s.from; tick = tick }) in
-    c.loop-steps.invariant ∙ ap at (read_is _ c.ranges.start) ∙ whole_left s.kept s.coefficients.now s.to s.from s.start
+    let at : ℤ → Answer = λ tick. walk_left s.kept.table s.kept.coefficients.now s.to 0 (record { scale = s.from; tick = tick }) in
+    c.loop-steps.invariant ∙ ap at (read_is _ c.ranges.start) ∙ whole_left s.kept.table s.kept.coefficients.now s.to s.from s.start
 
 -- the step that is taken is the next one
 by : (c : After-take_step) → next c.loop-steps.epoch.scale c.args.to

@@ -1,11 +1,11 @@
--- `walk::step::to_tt` meets its contract: a table that is kept was accepted, and the step over it
--- is the ephemeris'. Assumes nothing.
+-- `walk::kept::Kept::to_tt` meets its contract: a table that is kept was accepted, and the step over
+-- it is the ephemeris'. Assumes nothing.
 use borrow.Author.Rules.{rules}
 use Rattle.numbers.proofs.Machine.{read_is}
-use Rattle.walk.proofs.step.to_tt.Goals as goal
+use Rattle.walk.proofs.kept.Kept.to_tt.Goals as goal
 
 pub to_tt-requires : goal.to_tt-requires
-to_tt-requires c = c.requires.accepted _ c.in-Some.is
+to_tt-requires c = c.args.self.held.accepted _ c.in-Some.is
 
 pub returns-in-Some : goal.returns-in-Some
 returns-in-Some c = rw c.in-Some.is (rw (read_is c.args.epoch.tick (search rules)) at c.to_tt.ensures)
