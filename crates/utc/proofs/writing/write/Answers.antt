@@ -47,7 +47,8 @@ day_is c = read_is _ (record { sfits = c.latest_day-day.type_inv }) ∙ (rw (tic
 
 pub day_start-start-requires : goal.day_start-start-requires
 day_start-start-requires c =
-    rw (day_is (goal.at.day_start-start-requires c).After-latest_day-day) (latest_near c.args.leaps.now c.requires.right c.args.tick (writable c.args.tick c.requires.valid (grind (arith, ints))))
+    rw (day_is (goal.at.day_start-start-requires c).After-latest_day-day)
+    (latest_near c.args.leaps.now c.requires.right c.args.tick (writable c.args.tick c.requires.valid (grind (arith, ints))))
 
 start_is : (c : After-day_start-start) → read c.day_start-start.result
     ≡ day_start c.args.leaps.now (latest_day c.args.tick)
@@ -98,13 +99,16 @@ pub overflow_sub-before : goal.overflow_sub-before
 overflow_sub-before c = rw (day_is (goal.at.overflow_sub-before c).After-latest_day-day) (day_fits c)
 
 pub day_start-start-requires-2 : goal.day_start-start-requires-2
-day_start-start-requires-2 c = rw (day_is (goal.at.day_start-start-requires-2 c).After-latest_day-day, read_is _ (day_fits (goal.at.day_start-start-requires-2 c).Else-start-tick)) (nearby (goal.at.day_start-start-requires-2 c).Else-start-tick)
+day_start-start-requires-2 c =
+    let other = (goal.at.day_start-start-requires-2 c).Else-start-tick in
+    rw (day_is (goal.at.day_start-start-requires-2 c).After-latest_day-day, read_is _ (day_fits other)) (nearby other)
 
 start_is_2 : (c : After-day_start-start-2) → read c.day_start-start-2.result
     ≡ day_start c.args.leaps.now (latest_day c.args.tick -ℤ pos 1)
 start_is_2 c =
     read_is _ (record { sfits = c.day_start-start-2.type_inv })
-    ∙ (rw (day_is (goal.at.After-day_start-start-2 c).After-latest_day-day, read_is _ (day_fits (goal.at.After-day_start-start-2 c).Else-start-tick)) at c.day_start-start-2.ensures)
+    ∙ (rw (day_is (goal.at.After-day_start-start-2 c).After-latest_day-day, read_is _ (day_fits (goal.at.After-day_start-start-2 c).Else-start-tick))
+    at c.day_start-start-2.ensures)
 
 there : (c : Else-start-tick) → Within c.args.leaps.now c.args.tick (latest_day c.args.tick -ℤ pos 1)
 there c =
@@ -119,5 +123,12 @@ overflow_sub-result-2 c = rw (tick_is (goal.at.overflow_sub-result-2 c).Start, s
 
 pub returns : goal.returns
 returns c =
-    rw (day_is (goal.at.returns c).After-latest_day-day, read_is _ (day_fits (goal.at.returns c).Else-start-tick), tick_is (goal.at.returns c).Start, start_is_2 c, read_is _ (there_fits (goal.at.returns c).Else-start-tick))
-    (sym (within_written c.args.leaps.now c.requires.right c.args.tick _ (there (goal.at.returns c).Else-start-tick)))
+    let other = (goal.at.returns c).Else-start-tick in
+    rw (
+      day_is (goal.at.returns c).After-latest_day-day,
+      read_is _ (day_fits other),
+      tick_is (goal.at.returns c).Start,
+      start_is_2 c,
+      read_is _ (there_fits other),
+    )
+    (sym (within_written c.args.leaps.now c.requires.right c.args.tick _ (there other)))

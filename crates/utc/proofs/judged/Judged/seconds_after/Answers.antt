@@ -1,5 +1,5 @@
--- `utc::judged::Judged::seconds_after` meets its contract: the entry stays where there is no next one or
--- its first day is not the day after, else the next one begins. Assumes nothing.
+-- `utc::judged::Judged::seconds_after` meets its contract: the entry stays where there is no next one
+-- or its first day is not the day after, else the next one begins. Assumes nothing.
 use mathlib.Core.Path.{◌≡◌, sym, ◌∙◌}
 use mathlib.Core.Bool.{true, false}
 use mathlib.Core.List.{List}
@@ -67,7 +67,8 @@ module _ (s : Start) where
   day_is = read_is s.args.day s.ranges.day
 
   -- the next one's first day, as it was read
-  module _ (x : ℤ) (f : SFits w64 x) (e : x ≡ first_day leaps (s.args.entry + 1)) (h : suc s.args.entry < entries leaps) where
+  module _ (x : ℤ) (f : SFits w64 x) (e : x ≡ first_day leaps (s.args.entry + 1))
+      (h : suc s.args.entry < entries leaps) where
     next_is : read x ≡ first_day leaps (suc s.args.entry)
     next_is = rw add-one at (read_is x f ∙ e)
 
@@ -78,10 +79,12 @@ module _ (s : Start) where
     before_is : read (read x -ℤ pos 1) ≡ first_day leaps (suc s.args.entry) -ℤ pos 1
     before_is = rw (read_is _ less, next_is)
 
-    stayed : le_z (read (read x -ℤ pos 1)) (read s.args.day) ≡ false → seconds leaps s.args.entry ≡ seconds_on leaps (s.args.day +ℤ pos 1)
+    stayed : le_z (read (read x -ℤ pos 1)) (read s.args.day) ≡ false
+        → seconds leaps s.args.entry ≡ seconds_on leaps (s.args.day +ℤ pos 1)
     stayed e = stays leaps s.args.day s.args.entry s.requires judged (le_no _ _ (rw (before_is, day_is) at e))
 
-    turned : le_z (read (read x -ℤ pos 1)) (read s.args.day) ≡ true → seconds leaps (suc s.args.entry) ≡ seconds_on leaps (s.args.day +ℤ pos 1)
+    turned : le_z (read (read x -ℤ pos 1)) (read s.args.day) ≡ true
+        → seconds leaps (suc s.args.entry) ≡ seconds_on leaps (s.args.day +ℤ pos 1)
     turned e = turns leaps s.args.day s.args.entry s.requires judged h (le_yes _ _ (rw (before_is, day_is) at e))
 
 -- there is a next one
