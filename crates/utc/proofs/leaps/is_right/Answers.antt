@@ -1,15 +1,18 @@
+-- `utc::leaps::is_right` meets its contract: each test is one of the rule's. Assumes nothing.
+use borrow.Author.Count.{below_more, below_none}
 use borrow.Author.Tests.{lt-leb}
-use mathlib.Core.Path.{◌≡◌, sym, ◌∙◌}
-use mathlib.Core.Bool.{false, ◌&&◌}
+use mathlib.Core.Path.{◌≡◌, refl, sym, ◌∙◌}
+use mathlib.Core.Bool.{Bool, true, false, ◌&&◌}
 use mathlib.Core.List.{List}
-use lib.IntN.{ℤ}
-use Prim.Native.Nat.{ℕ, ◌-◌, ◌<◌}
+use Prim.Native.Nat.{ℕ, ◌+◌, ◌-◌, ◌≤◌, ◌<◌}
 use native.Mathlib.Omega.{arith}
 use lib.Dec.{leb}
+use lib.IntN.{ℤ}
 use Rattle.numbers.proofs.Flags.{and_right}
 use Rattle.numbers.proofs.Places.{every_not}
 use Rattle.utc.specs.Leaps.{entries, is_start_right, is_count_right, is_next_right, is_list_right, most_entries}
 use Rattle.utc.proofs.Rules.{all_right}
+use Rattle.utc.proofs.leaps.is_right.Invariants.{Followed}
 use Rattle.utc.proofs.leaps.is_right.Goals as goal
 use Rattle.utc.proofs.leaps.is_right.Goals.{
   then-count-eq0-via-then-count-eq0,
@@ -51,13 +54,99 @@ returns-then-count-eq0 c =
           not_begun leaps (sym w.is_start_right.ensures ∙ w.if-not-is_start_right.true)
     ]
 
+few_are : (leaps : List ℤ) (n : ℕ) → n ≡ entries leaps → n ≤ 64 → entries leaps ≤ most_entries
+few_are leaps n e h = omega (arith, e)
+
+-- from an entry that was come to
+module _ {leaps : List ℤ} {n : ℕ} (f : Followed leaps n) where
+  no_next : n + 1 < entries leaps → is_next_right leaps n ≡ false → false ≡ is_list_right leaps
+  no_next h e = not_followed leaps n (omega arith) e
+
+  followed_next : n + 1 < entries leaps → is_next_right leaps n ≡ true → Followed leaps (n + 1)
+  followed_next h e = record { within = h; each = λ k l. below_more (λ k. is_next_right leaps k ≡ true) n f.each e k (omega arith) }
+
+  module _ (few : entries leaps ≤ most_entries) (start : is_start_right leaps ≡ true) where
+    -- there is no other
+    last : entries leaps ≤ n + 1 → is_list_right leaps ≡ true
+    last h = all_right leaps (omega (arith, f.within)) few start (λ k l. f.each k (omega arith))
+
+    -- or one
+    last_but_one : n + 1 < entries leaps → entries leaps ≤ n + 2 → is_next_right leaps n ≡ is_list_right leaps
+    last_but_one h l = by (is_next_right leaps n) refl
+      where
+        by : (t : Bool) → is_next_right leaps n ≡ t → t ≡ is_list_right leaps
+        by true e =
+            sym (all_right leaps (omega arith) few start
+            (λ k i. below_more (λ k. is_next_right leaps k ≡ true) n f.each e k (omega arith)))
+        by false e = no_next h e
+
+pub loop-entry-init : goal.loop-entry-init
+loop-entry-init c = record { within = omega (arith, c.len-count.ensures); each = below_none _ }
+
+pub overflow_add-entry : goal.overflow_add-entry
+unfolding entries
+overflow_add-entry c = omega (arith, c.loop-entry.invariant.within)
+
+-- in a turn there are two more
+more : (n k : ℕ) {m : ℕ} → m ≡ k → n + 2 < m → n + 2 < k
+more n k e h = omega (arith, e)
+
+pub is_next_right-requires : goal.is_next_right-requires
+is_next_right-requires c = omega (arith, more _ _ c.len-count.ensures c.loop-entry-test.true)
+
 pub returns-then-not-is_next_right : goal.returns-then-not-is_next_right
 returns-then-not-is_next_right c =
-    not_followed c.args.leaps.now c.loop-entry.entry (omega (arith, c.len-count.ensures, c.loop-entry-test.true))
+    no_next c.loop-entry.invariant (omega (arith, more _ _ c.len-count.ensures c.loop-entry-test.true))
     (sym c.is_next_right.ensures ∙ c.if-not-is_next_right.true)
+
+pub overflow_add-entry-in-loop-entry : goal.overflow_add-entry-in-loop-entry
+overflow_add-entry-in-loop-entry c = omega arith
+
+pub is_next_right-requires-in-loop-entry : goal.is_next_right-requires-in-loop-entry
+is_next_right-requires-in-loop-entry c = omega (arith, more _ _ c.len-count.ensures c.loop-entry-test.true)
+
+-- the next of those two
+next : {leaps : List ℤ} {n : ℕ} {t : Bool} → Followed leaps n → n + 2 < entries leaps → t ≡ is_next_right leaps n
+    → t ≡ true → Followed leaps (n + 1)
+next f h e y = followed_next f (omega arith) (sym e ∙ y)
+
+pub returns-then-not-is_next_right-2 : goal.returns-then-not-is_next_right-2
+returns-then-not-is_next_right-2 c =
+    let m = more _ _ c.len-count.ensures c.loop-entry-test.true in
+    no_next (next c.loop-entry.invariant m c.is_next_right.ensures c.if-not-is_next_right.false) (omega arith)
+    (sym c.is_next_right-in-loop-entry.ensures ∙ c.if-not-is_next_right-2.true)
+
+pub overflow_add-entry-in-loop-entry-2 : goal.overflow_add-entry-in-loop-entry-2
+overflow_add-entry-in-loop-entry-2 c = omega arith
+
+pub loop-entry-smaller : goal.loop-entry-smaller
+loop-entry-smaller c = omega arith
+
+-- two on
+two_on : {leaps : List ℤ} (n : ℕ) → Followed leaps (n + 1) → n + 2 < entries leaps → is_next_right leaps (n + 1) ≡ true
+    → Followed leaps (n + 2)
+two_on {leaps} n f h e = let a : n + 1 + 1 ≡ n + 2 = omega arith in rw a at (followed_next f (omega arith) e)
+
+pub loop-entry-preserved : goal.loop-entry-preserved
+loop-entry-preserved c =
+    let m = more _ _ c.len-count.ensures c.loop-entry-test.true in
+    two_on c.loop-entry.entry (next c.loop-entry.invariant m c.is_next_right.ensures c.if-not-is_next_right.false) m
+    (sym c.is_next_right-in-loop-entry.ensures ∙ c.if-not-is_next_right-2.false)
+
+pub overflow_add-entry-2 : goal.overflow_add-entry-2
+unfolding entries
+overflow_add-entry-2 c = omega (arith, c.loop-entry.invariant.within)
+
+pub is_next_right-requires-then-entry-count : goal.is_next_right-requires-then-entry-count
+is_next_right-requires-then-entry-count c = omega (arith, c.len-count.ensures)
+
+pub returns-then-entry-count : goal.returns-then-entry-count
+returns-then-entry-count c =
+    c.is_next_right-then-entry-count.ensures
+    ∙ last_but_one c.loop-entry.invariant (few_are _ _ c.len-count.ensures (omega arith)) (sym c.is_start_right.ensures ∙ c.if-not-is_start_right.false)
+    (omega (arith, c.len-count.ensures)) (omega (arith, c.len-count.ensures))
 
 pub returns : goal.returns
 returns c =
-    sym (all_right c.args.leaps.now (omega (arith, c.len-count.ensures)) (omega (arith, c.len-count.ensures))
-    (sym c.is_start_right.ensures ∙ c.if-not-is_start_right.false)
-    (λ k l. c.loop-entry.invariant k (omega (arith, c.len-count.ensures))))
+    sym (last c.loop-entry.invariant (few_are _ _ c.len-count.ensures (omega arith)) (sym c.is_start_right.ensures ∙ c.if-not-is_start_right.false)
+    (omega (arith, c.len-count.ensures)))

@@ -2,12 +2,18 @@
 -- followed as it should be. The measure is how many are left. Assumes nothing.
 use mathlib.Core.Path.{◌≡◌}
 use mathlib.Core.Bool.{true}
+use mathlib.Core.List.{List}
 use Prim.Native.Nat.{ℕ, ◌-◌, ◌<◌}
-use Rattle.utc.specs.Leaps.{is_next_right}
+use lib.IntN.{ℤ}
+use Rattle.utc.specs.Leaps.{entries, is_next_right}
 use Rattle.utc.proofs.leaps.is_right.Given as goal
 
+pub record Followed (leaps : List ℤ) (n : ℕ) : Type 0 where
+  pub within : n < entries leaps
+  pub each : (k : ℕ) → k < n → is_next_right leaps k ≡ true
+
 abbrev pub invariant-loop-entry : goal.invariant-loop-entry
-invariant-loop-entry l = (k : ℕ) → k < l.entry → is_next_right l.leaps.0.now k ≡ true
+invariant-loop-entry l = Followed l.leaps.0.now l.entry
 
 abbrev pub decreases-loop-entry : goal.decreases-loop-entry
 decreases-loop-entry l = l.count - l.entry

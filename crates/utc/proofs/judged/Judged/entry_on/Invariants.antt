@@ -1,6 +1,6 @@
--- `utc::judged::Judged::entry_on` meets its contract. The loop's invariant: entry `low` has begun, the
--- one `left` after it, if there is one, has not, and `left` is at most 2 to the power of the turns
--- that are left, which are the measure. Assumes nothing.
+-- `utc::judged::Judged::entry_on` meets its contract. The loop's invariant: entry `low` has begun,
+-- the one `left` after it, if there is one, has not, and `left` is at most 2 to the power of the
+-- turns that are left, which are the measure. Assumes nothing.
 use mathlib.Core.List.{List}
 use Prim.Native.Nat.{ℕ, ◌+◌, ◌-◌, ◌^◌, ◌≤◌, ◌<◌}
 use lib.IntN.{ℤ}

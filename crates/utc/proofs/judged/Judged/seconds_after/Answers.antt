@@ -1,5 +1,5 @@
--- `utc::judged::Judged::seconds_after` meets its contract: the entry stays where there is no next one
--- or its first day is not the day after, else the next one begins. Assumes nothing.
+-- `utc::judged::Judged::seconds_after` meets its contract: the entry stays where there is no next
+-- one or its first day is not the day after, else the next one begins. Assumes nothing.
 use mathlib.Core.Path.{◌≡◌, sym, ◌∙◌}
 use mathlib.Core.Bool.{true, false}
 use mathlib.Core.List.{List}
