@@ -9,7 +9,8 @@ ghost use Rattle.numbers.specs.Rounding.{floor_div};
 ghost use Rattle.dates.specs.Doubles.{denominator, numerator};
 ghost use Rattle.dates.specs.Readings.{most_days};
 ghost use Rattle.dates.specs.Inner.{Counted, CountedSum, Factored, Far, FarPieces, Pieces};
-ghost use Rattle.dates.specs.Inner.{Reach, Readable, Rounded, SpanWithin, few_units, left_by, worth};
+ghost use Rattle.dates.specs.Inner.{Reach, Readable, Rounded, SpanWithin, few_units, left_by};
+ghost use Rattle.dates.specs.Inner.{worth};
 
 use crate::double::take_apart;
 use crate::span::Span;
@@ -62,8 +63,8 @@ impl Unit {
         most: 8_640_000_000,
     };
 
-    // odd · part / 2^(31 + by), cut down. The product is wider than 64 bits, so the part is split at
-    // 2^31, and its low half's product cut there.
+    // odd · part / 2^(31 + by), cut down. The product is wider than 64 bits, so the part is split
+    // at 2^31, and its low half's product cut there.
     fn cut_product(self, part: i64, by: u64) -> i64
         requires { by ≤ 62 }
         ensures { result ≡ floor_div (pos self.odd *ℤ part) (2 ^ (31 + by)) }
@@ -124,8 +125,8 @@ impl Unit {
         self.pieces_within(digits, 47 + self.twos - places)
     }
 
-    // Pieces and shares to the nearest tick, as units of odd · 2^twos ticks, and ticks. Half a tick is
-    // added and the sum cut down, also below zero: so an exact half goes to the greater.
+    // Pieces and shares to the nearest tick, as units of odd · 2^twos ticks, and ticks. Half a tick
+    // is added and the sum cut down, also below zero: so an exact half goes to the greater.
     pub fn rounded(self, count: Span) -> Span
         requires { SpanWithin (2 ^ 60) (2 ^ 54) count }
         ensures { Rounded (self.odd * 2 ^ self.twos) (worth (pos self.odd) count) result }

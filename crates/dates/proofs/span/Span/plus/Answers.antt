@@ -1,4 +1,5 @@
--- `dates::span::Span::plus` meets its contract: numbers up to 2^61, and their sums, fit. Assumes nothing.
+-- `dates::span::Span::plus` meets its contract: numbers up to 2^61, and their sums, fit. Assumes
+-- nothing.
 use mathlib.Core.Path.{◌≡◌, ◌∙◌}
 use Prim.Native.Nat.{◌≤◌}
 use native.Mathlib.Omega.{arith}

@@ -70,7 +70,8 @@ returns-then-places-self-2 c =
     let r = c.take_apart-parts.result in
     piece_part c.args.x r.digits r.exponent c.take_apart-parts.ensures (low (goal.at.returns-then-places-self-2 c).After-take_apart-parts)
     (few _ _ c.args.self.factored.low c.if-places-self.false)
-    c.args.self.odd c.args.self.twos _ c.if-places-self.false (rw (digits_are (goal.at.returns-then-places-self-2 c).After-take_apart-parts) at c.pieces_over.ensures)
+    c.args.self.odd c.args.self.twos _ c.if-places-self.false
+    (rw (digits_are (goal.at.returns-then-places-self-2 c).After-take_apart-parts) at c.pieces_over.ensures)
 
 pub pieces_within-requires : goal.pieces_within-requires
 pieces_within-requires c =
@@ -84,4 +85,5 @@ returns c =
     let r = c.take_apart-parts.result in
     piece_part c.args.x r.digits r.exponent c.take_apart-parts.ensures (low (goal.at.returns c).After-take_apart-parts)
     (few _ _ c.args.self.factored.low c.if-places-self.false)
-    c.args.self.odd c.args.self.twos _ c.if-places-self.false (rw (digits_are (goal.at.returns c).After-take_apart-parts) at c.pieces_within.ensures)
+    c.args.self.odd c.args.self.twos _ c.if-places-self.false
+    (rw (digits_are (goal.at.returns c).After-take_apart-parts) at c.pieces_within.ensures)

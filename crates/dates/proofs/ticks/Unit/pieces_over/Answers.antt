@@ -1,5 +1,5 @@
--- `dates::ticks::Unit::pieces_over` meets its contract: 2^6 times the digits fit, and are shifted back by
--- what is too much. Assumes nothing.
+-- `dates::ticks::Unit::pieces_over` meets its contract: 2^6 times the digits fit, and are shifted
+-- back by what is too much. Assumes nothing.
 use mathlib.Core.Path.{◌≡◌, sym, ap, ◌∙◌}
 use Prim.Native.Nat.{ℕ, ◌-◌, ◌+◌, ◌*◌, ◌%◌, ◌^◌, ◌≤◌}
 use native.Mathlib.Nat.{le_of_lt, le_trans, mul-le-mul_right}

@@ -1,5 +1,5 @@
--- `dates::ticks::Unit::pieces_within` meets its contract: so few digits are shifted without loss. Assumes
--- nothing.
+-- `dates::ticks::Unit::pieces_within` meets its contract: so few digits are shifted without loss.
+-- Assumes nothing.
 use mathlib.Core.Path.{◌≡◌, refl, ap, ◌∙◌}
 use Prim.Native.Nat.{◌*◌, ◌%◌, ◌^◌, ◌<◌, ◌≤◌}
 use native.Mathlib.Nat.{le_trans, lt_of_lt_of_le, mul-le-mul_left, mul-lt-mul_of_pos_right}
