@@ -3,7 +3,7 @@ use Rattle.std.specs.Prelude.{Ok}
 use mathlib.Core.Path.{◌≡◌, refl}
 use mathlib.Core.Bool.{Bool, true, false, not}
 use Prim.Native.Nat.{ℕ, zero, suc, ◌+◌, ◌*◌, ◌≤◌, ◌<◌}
-use native.Mathlib.Nat.{le_trans, zero-mul, suc-mul, mul-le-mul_left}
+use native.Mathlib.Nat.{le_trans, mul_comm, zero-mul, suc-mul, mul-le-mul_left}
 use native.Mathlib.Omega.{arith}
 use lib.IntN.{ℤ, pos, negsuc, neg_ℤ, nat_abs, ◌+ℤ◌, ◌*ℤ◌}
 use lib.Signed.{◌≤ℤ◌, ◌<ℤ◌}
@@ -56,6 +56,13 @@ module _ (per most : ℤ) (reach : Reach per most) where
       go : (p m : ℕ) → p * m ≡ 8640000000000000000 → m ≤ 8640000000000000000
       go zero m w = let z : ⊥ = omega (arith, zero-mul m) in absurd z
       go (suc p) m w = omega (arith, suc-mul p m)
+
+  pub per_size : nat_abs per ≤ 8640000000000000000
+  per_size = go (nat_abs per) (nat_abs most) reach.days
+    where
+      go : (p m : ℕ) → p * m ≡ 8640000000000000000 → p ≤ 8640000000000000000
+      go p zero w = let z : ⊥ = omega (arith, mul_comm p zero, zero-mul p) in absurd z
+      go p (suc m) w = omega (arith, mul_comm p (suc m), suc-mul m p)
 
   pub units_size : (u : ℤ) → u ≤ℤ most → neg_ℤ most ≤ℤ u → nat_abs (u *ℤ per) ≤ 8640000000000000000
   units_size u h k = rw reach.per_is (near (nat_abs per) (nat_abs most) reach.days u (rw reach.most_is at h) (rw reach.most_is at k))

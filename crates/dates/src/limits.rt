@@ -5,32 +5,29 @@ ghost use Rattle.dates.specs.Doubles.{beyond};
 ghost use Rattle.dates.specs.Readings.{most_days, most_seconds};
 ghost use Rattle.dates.specs.Inner.{passing};
 
+const MOST_DAYS: f64 = 5_000_000.0;
+
+const MOST_SECONDS: f64 = 10_000_000_000.0;
+
 // Neither 'NaN or infinite': 1.0 / 0.0 is the infinity, and no comparison with a NaN holds.
 pub fn is_finite(x: f64) -> bool
     ensures { result ≡ finite x }
 {
-    if x < 1.0 / 0.0 { x > -1.0 / 0.0 } else { false }
+    x < 1.0 / 0.0 && x > -1.0 / 0.0
 }
 
 // 'date part beyond 5,000,000 days either way'
 pub fn beyond_days(x: f64) -> bool
     ensures { result ≡ beyond most_days x }
 {
-    if x > 5_000_000.0 {
-        return true;
-    }
-    x < -5_000_000.0
+    x > MOST_DAYS || x < -MOST_DAYS
 }
 
 // A date part that is neither: no comparison with a NaN holds, and the infinities are beyond.
 fn passes_days(x: f64) -> bool
     ensures { result ≡ passing most_days x }
 {
-    if x <= 5_000_000.0 {
-        -5_000_000.0 <= x
-    } else {
-        false
-    }
+    x <= MOST_DAYS && -MOST_DAYS <= x
 }
 
 // Both parts of a date.
@@ -44,8 +41,5 @@ pub fn both_pass(first: f64, second: f64) -> bool
 pub fn beyond_seconds(x: f64) -> bool
     ensures { result ≡ beyond most_seconds x }
 {
-    if x > 10_000_000_000.0 {
-        return true;
-    }
-    x < -10_000_000_000.0
+    x > MOST_SECONDS || x < -MOST_SECONDS
 }

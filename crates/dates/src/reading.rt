@@ -2,13 +2,11 @@
 ghost use Rattle.std.specs.Prelude.{◌≡◌, false, ◌&&◌};
 ghost use Rattle.dates.specs.Readings.{in_range, most_days, read_of, read_of_date, read_of_parts};
 ghost use Rattle.dates.specs.Readings.{read_of_seconds, purpose_of, refused_with};
-ghost use Rattle.dates.specs.Inner.{Listed, Reach, SpanWithin, few_ticks, modest, passing, worth};
+ghost use Rattle.dates.specs.Inner.{Listed, SpanWithin, few_ticks, modest, passing, worth};
 
 use crate::limits::{beyond_days, beyond_seconds, both_pass, is_finite};
-use crate::span::{Span, plus};
-use crate::ticks::{
-    DAY_ODD, DAY_TWOS, SECOND_ODD, SECOND_TWOS, count_of_seconds, rounded, sum_of_days,
-};
+use crate::span::Span;
+use crate::ticks::{Unit, sum_of_days};
 use scales::refusal::Refusal;
 use scales::scale::Purpose;
 use scales::tick::valid;
@@ -52,21 +50,17 @@ pub fn ranged(tick: i64) -> Result<i64, Refusal>
     refused(4, 0)
 }
 
-// So many units of `per` ticks, and ticks. `most` units are 100,000 days: beyond them, either way,
-// no ticks of a span bring it back into the range, and up to there it fits 64 bits.
-fn placed(span: Span, per: i64, most: i64) -> Result<i64, Refusal>
-    requires span_within { SpanWithin modest few_ticks span }
-    requires reach { Reach per most }
-    ensures { result ≡ in_range (worth per span) }
+// So many units, and ticks. Beyond 100,000 days, either way, no ticks of a span bring it back into
+// the range, and up to there it fits 64 bits.
+fn placed(span: Span, unit: Unit) -> Result<i64, Refusal>
+    requires { SpanWithin modest few_ticks span }
+    ensures { result ≡ in_range (worth unit.per span) }
 {
     let units = span.units;
-    if units > most {
+    if units > unit.most || units < -unit.most {
         return refused(4, 0);
     }
-    if units < -most {
-        return refused(4, 0);
-    }
-    ranged(units * per + span.rest)
+    ranged(units * unit.per + span.rest)
 }
 
 // The refusal of two parts of which one does not pass: '2 over both parts, 3 over both parts (the
@@ -96,12 +90,12 @@ fn two_part(first: f64, second: f64) -> Result<i64, Refusal>
     if !both_pass(first, second) {
         return no_date(first, second);
     }
-    let sum = rounded(sum_of_days(first, second), DAY_ODD, DAY_TWOS);
+    let sum = Unit::DAY.rounded(sum_of_days(first, second));
     let origin = Span {
         units: -2_443_144,
         rest: -43_232_184_000_000,
     };
-    placed(plus(sum, origin), 86_400_000_000_000, 100_000)
+    placed(sum.plus(origin), Unit::DAY)
 }
 
 // Seconds past J2000, which is 725,803,167.816 s past Julian date 2443144.5003725.
@@ -118,8 +112,8 @@ fn since_j2000(seconds: f64) -> Result<i64, Refusal>
         units: 725_803_167,
         rest: 816_000_000,
     };
-    let count = rounded(count_of_seconds(seconds), SECOND_ODD, SECOND_TWOS);
-    placed(plus(count, j2000), 1_000_000_000, 8_640_000_000)
+    let count = Unit::SECOND.rounded(Unit::SECOND.count_of(seconds));
+    placed(count.plus(j2000), Unit::SECOND)
 }
 
 // What the first code is read for.

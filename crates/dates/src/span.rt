@@ -9,14 +9,16 @@ pub struct Span {
     pub rest: i64,
 }
 
-// The sum of two of one unit.
-pub fn plus(a: Span, b: Span) -> Span
-    requires span_within { SpanWithin modest modest a }
-    requires span_within_2 { SpanWithin modest modest b }
-    ensures { Spanned result (a.units +ℤ b.units) (a.rest +ℤ b.rest) }
-{
-    Span {
-        units: a.units + b.units,
-        rest: a.rest + b.rest,
+impl Span {
+    // The sum of two of one unit.
+    pub fn plus(self, other: Span) -> Span
+        requires one { SpanWithin modest modest self }
+        requires other { SpanWithin modest modest other }
+        ensures { Spanned result (self.units +ℤ other.units) (self.rest +ℤ other.rest) }
+    {
+        Span {
+            units: self.units + other.units,
+            rest: self.rest + other.rest,
+        }
     }
 }

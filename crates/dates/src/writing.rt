@@ -11,6 +11,8 @@ use crate::reading::Date;
 use scales::refusal::Refusal;
 use scales::tick::valid;
 
+const DAY: u64 = 86_400_000_000_000;
+
 // The ticks since 70,000 days before JD 2443144.5, which is before every valid tick; the caller's
 // is valid.
 fn since_first(tick: i64) -> u64
@@ -57,7 +59,7 @@ pub fn write_date(tick: i64) -> Result<Date, Refusal>
     }
     let since = since_first(tick);
     Ok(Date {
-        first: julian_date(since / 86_400_000_000_000),
-        second: part_of_day(since % 86_400_000_000_000),
+        first: julian_date(since / DAY),
+        second: part_of_day(since % DAY),
     })
 }

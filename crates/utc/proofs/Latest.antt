@@ -65,8 +65,8 @@ module _ (leaps : List ℤ) (e : is_list_right leaps ≡ true) (t : ℤ) (w : Wr
   unfolding latest_day
   nearly = near t (floor_div (t +ℤ pos later) day_ticks) w.valid counts.under counts.above
 
-  pub latest_near : NearListed leaps (latest_day t)
-  latest_near = record { listed = record { right = e; begun = latest_listed }; near = omega (arith, nearly) }
+  pub latest_near : NearListed (latest_day t)
+  latest_near = record { begun = latest_listed; near = omega (arith, nearly) }
 
   pub latest_within : day_start leaps (latest_day t) ≤ℤ t → Within leaps t (latest_day t)
   unfolding latest_day day_start tai_of
@@ -90,8 +90,8 @@ module _ (leaps : List ℤ) (e : is_list_right leaps ≡ true) (t : ℤ) (w : Wr
     before_listed : pos list_day ≤ℤ (latest_day t -ℤ pos 1)
     before_listed = before (pos list_day) (latest_day t) not_first
 
-    pub before_near : NearListed leaps (latest_day t -ℤ pos 1)
-    before_near = record { listed = record { right = e; begun = before_listed }; near = nearer (latest_day t) nearly }
+    pub before_near : NearListed (latest_day t -ℤ pos 1)
+    before_near = record { begun = before_listed; near = nearer (latest_day t) nearly }
 
     pub before_within : Within leaps t (latest_day t -ℤ pos 1)
     unfolding latest_day day_start tai_of

@@ -1,58 +1,55 @@
-// The entries of a list of leap seconds, and what they say of a day. A list is lent flat: first
-// day, seconds, first day, seconds, and so on.
-ghost use Rattle.std.specs.Prelude.{◌≡◌, ◌<◌, pos, ◌+ℤ◌};
-ghost use Rattle.utc.specs.Leaps.{entries, first_day, seconds};
-ghost use Rattle.utc.specs.Days.{entry_on, seconds_on};
-ghost use Rattle.utc.specs.Asked.{EntryOfDay, Listed};
+// A list of leap seconds, its entries and their rule.
+ghost use Rattle.std.specs.Prelude.{◌≡◌, ◌<◌, ◌+◌};
+ghost use Rattle.utc.specs.Leaps.{entries, first_day, is_next_right, is_start_right, seconds};
 
-pub fn first_day(leaps: &[i64], entry: usize) -> i64
-    requires { entry < entries leaps.now }
-    ensures { result ≡ first_day leaps.now entry }
-{
-    leaps[2 * entry]
-}
+// 'starts with day 41317 and 10 s'
+pub const FIRST_DAY: i64 = 41_317;
 
-pub fn seconds_of(leaps: &[i64], entry: usize) -> i64
-    requires { entry < entries leaps.now }
-    ensures { result ≡ seconds leaps.now entry }
-{
-    leaps[2 * entry + 1]
-}
+const FIRST_SECONDS: i64 = 10;
 
-// The entry of a day: the last whose first day is not after it. By halves: it is one of the `left`
-// entries from `low` on, and 64 are one after six halvings. With as many turns for every list the
-// loop is no loop in machine code, and takes each half without a jump that a processor would have
-// to guess.
-pub fn entry_on(leaps: &[i64], day: i64) -> usize
-    requires { Listed leaps.now day }
-    ensures { result ≡ entry_on leaps.now day }
-{
-    let mut low: usize = 0;
-    let mut left = leaps.len() / 2;
-    let mut turns: usize = 6;
-    while turns > 0 {
-        let half = left / 2;
-        if first_day(leaps, low + half) <= day {
-            low += half;
-        }
-        left -= half;
-        turns -= 1;
+// A list as it is lent, flat: first day, seconds, first day, seconds, and so on.
+#[derive(Clone, Copy)]
+pub struct Leaps<'a>(pub &'a [i64]);
+
+impl Leaps<'_> {
+    #[tactic(auto, unfolding(crate::specs::Leaps::entries))]
+    pub fn len(self) -> usize
+        ensures { result ≡ entries self.entry.0.now }
+    {
+        self.0.len() / 2
     }
-    low
-}
 
-// The seconds on the day after a day, by its entry. The day after may be none of 64 bits, but the
-// day before the next entry's first is one.
-pub fn seconds_after(leaps: &[i64], day: i64, entry: usize) -> i64
-    requires { EntryOfDay leaps.now day entry }
-    ensures { result ≡ seconds_on leaps.now (day +ℤ pos 1) }
-{
-    let next = entry + 1;
-    if next == leaps.len() / 2 {
-        return seconds_of(leaps, entry);
+    #[tactic(auto, unfolding(crate::specs::Leaps::entries, crate::specs::Leaps::first_day))]
+    pub fn first_day(self, entry: usize) -> i64
+        requires { entry < entries self.0.now }
+        ensures { result ≡ first_day self.entry.0.now entry }
+    {
+        self.0[2 * entry]
     }
-    if day < first_day(leaps, next) - 1 {
-        return seconds_of(leaps, entry);
+
+    #[tactic(auto, unfolding(crate::specs::Leaps::entries, crate::specs::Leaps::seconds))]
+    pub fn seconds(self, entry: usize) -> i64
+        requires { entry < entries self.0.now }
+        ensures { result ≡ seconds self.entry.0.now entry }
+    {
+        self.0[2 * entry + 1]
     }
-    seconds_of(leaps, next)
+
+    #[tactic(auto, unfolding(crate::specs::Leaps::is_start_right))]
+    pub fn is_start_right(self) -> bool
+        requires { 0 < entries self.0.now }
+        ensures { result ≡ is_start_right self.entry.0.now }
+    {
+        self.first_day(0) == FIRST_DAY && self.seconds(0) == FIRST_SECONDS
+    }
+
+    // 'days rise strictly and seconds change by exactly one', from an entry to the next.
+    #[tactic(auto, unfolding(crate::specs::Leaps::is_next_right, crate::specs::Leaps::entries))]
+    pub fn is_next_right(self, entry: usize) -> bool
+        requires { entry + 1 < entries self.0.now }
+        ensures { result ≡ is_next_right self.entry.0.now entry }
+    {
+        self.first_day(entry) < self.first_day(entry + 1)
+            && self.seconds(entry + 1).abs_diff(self.seconds(entry)) == 1
+    }
 }

@@ -3,6 +3,7 @@
 #![tactic(auto)]
 
 mod entries;
+mod judged;
 pub mod leaps;
 pub mod reading;
 mod tai;

@@ -1,11 +1,11 @@
 // A TAI tick, written as UTC.
 ghost use Rattle.std.specs.Prelude.{◌≡◌};
-ghost use Rattle.utc.specs.Days.{day_start};
 ghost use Rattle.utc.specs.Readings.{utc_written};
-ghost use Rattle.utc.specs.Asked.{NearListed, ToWrite, Writable, latest_day};
+ghost use Rattle.utc.specs.Asked.{ToWrite, Writable, latest_day};
 
-use crate::entries::{entry_on, seconds_of};
-use crate::tai::tai_by;
+use crate::entries::{FIRST_DAY, Leaps};
+use crate::judged::Judged;
+use crate::tai::DAY;
 use scales::refusal::Refusal;
 
 // 'a Modified Julian Day and ticks within the day'
@@ -18,15 +18,6 @@ pub struct Utc {
 // The TAI tick of day 41317, ticks 0.
 const FIRST_TICK: i64 = -157_852_822_184_000_000;
 
-// The TAI tick at which a day begins.
-fn day_start(leaps: &[i64], day: i64) -> i64
-    requires { NearListed leaps.now day }
-    ensures { result ≡ day_start leaps.now day }
-{
-    let entry = entry_on(leaps, day);
-    tai_by(seconds_of(leaps, entry), day, 0)
-}
-
 // The last day on which a tick can be: its day where TAI−UTC is −53 s, the least to which 64
 // entries come. It is counted from day 41317, so that nothing is negative; by −53 s that day begins
 // 63 s before `FIRST_TICK`.
@@ -35,7 +26,7 @@ fn latest_day(tick: i64) -> i64
     ensures { result ≡ latest_day tick }
 {
     let since = (tick + 157_852_885_184_000_000) as u64;
-    41_317 + (since / 86_400_000_000_000) as i64
+    FIRST_DAY + (since / DAY as u64) as i64
 }
 
 // Writes a valid TAI tick as UTC, over a list that is right, which the caller has judged by refusal
@@ -52,8 +43,11 @@ pub fn write(leaps: &[i64], tick: i64) -> Result<Utc, Refusal>
             place: 0,
         });
     }
+    let list = Judged {
+        leaps: Leaps(leaps),
+    };
     let day = latest_day(tick);
-    let start = day_start(leaps, day);
+    let start = list.day_start(day);
     if start <= tick {
         return Ok(Utc {
             day,
@@ -61,7 +55,7 @@ pub fn write(leaps: &[i64], tick: i64) -> Result<Utc, Refusal>
         });
     }
     let before = day - 1;
-    let start = day_start(leaps, before);
+    let start = list.day_start(before);
     Ok(Utc {
         day: before,
         ticks: tick - start,

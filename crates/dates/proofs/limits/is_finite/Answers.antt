@@ -1,4 +1,5 @@
 -- `dates::limits::is_finite` meets its contract: the quotients are the infinities. Assumes nothing.
+use mathlib.Core.Path.{◌∙◌}
 use lib.Ieee.{div, of_bits, neg}
 use Rattle.dates.proofs.Comparisons.{below_inf, not_below_inf}
 use Rattle.dates.proofs.limits.is_finite.Goals as goal
@@ -9,4 +10,4 @@ returns-then-x c = below_inf c.args.x c.if-x.true
 
 pub returns-else-x : goal.returns-else-x
 unfolding div of_bits neg
-returns-else-x c = not_below_inf c.args.x c.if-x.false
+returns-else-x c = c.if-x.false ∙ not_below_inf c.args.x c.if-x.false

@@ -1,8 +1,8 @@
 -- `dates::reading::since_j2000` meets its contract: the tests in the page's order, and J2000 added.
 -- Assumes nothing.
-use mathlib.Core.Path.{◌≡◌, refl, sym, ap, ◌∙◌}
+use mathlib.Core.Path.{◌≡◌, sym, ap, ◌∙◌}
 use mathlib.Core.Bool.{true, false}
-use lib.Dec.{lit≤, lit<}
+use lib.Dec.{lit≤}
 use lib.IntN.{ℤ, ◌+ℤ◌}
 use lib.Ieee.Scale.{finite}
 use Rattle.numbers.specs.Rounding.{nearest}
@@ -34,15 +34,11 @@ returns-then-beyond_seconds c =
 within : (c : Else-beyond_seconds) → beyond most_seconds c.args.seconds ≡ false
 within c = sym c.beyond_seconds.ensures ∙ c.if-beyond_seconds.false
 
-pub count_of_seconds-requires : goal.count_of_seconds-requires
-count_of_seconds-requires c = passes _ _ (finitely (goal.at.count_of_seconds-requires c).Else-not-is_finite) (within c)
+pub count_of-requires : goal.count_of-requires
+count_of-requires c = passes _ _ (finitely (goal.at.count_of-requires c).Else-not-is_finite) (within (goal.at.count_of-requires c).Else-beyond_seconds)
 
 pub rounded-count-requires : goal.rounded-count-requires
-rounded-count-requires c =
-    record {
-      span_within = looser c.count_of_seconds.result (lit≤ tt) (lit≤ tt) c.count_of_seconds.ensures.small;
-      factored = record { some = lit< tt; small = lit≤ tt; high = lit≤ tt; low = lit≤ tt };
-    }
+rounded-count-requires c = looser c.count_of.result (lit≤ tt) (lit≤ tt) c.count_of.ensures.small
 
 constant : SpanWithin 725803167 816000000 j2000_span
 constant = record { units = lit≤ tt; rest = lit≤ tt }
@@ -50,18 +46,14 @@ constant = record { units = lit≤ tt; rest = lit≤ tt }
 pub plus-requires : goal.plus-requires
 plus-requires c =
     record {
-      span_within = looser c.rounded-count.result (lit≤ tt) (lit≤ tt) c.rounded-count.ensures.small;
-      span_within_2 = looser j2000_span (lit≤ tt) (lit≤ tt) constant;
+      one = looser c.rounded-count.result (lit≤ tt) (lit≤ tt) c.rounded-count.ensures.small;
+      other = looser j2000_span (lit≤ tt) (lit≤ tt) constant;
     }
 
 pub placed-requires : goal.placed-requires
 placed-requires c =
     let r = c.rounded-count in
-    record {
-      span_within =
-          looser c.plus.result (lit≤ tt) (lit≤ tt) (sum_sized r.result j2000_span c.plus.result r.ensures.small constant c.plus.ensures);
-      reach = record { per_is = refl; most_is = refl; days = refl };
-    }
+    looser c.plus.result (lit≤ tt) (lit≤ tt) (sum_sized r.result j2000_span c.plus.result r.ensures.small constant c.plus.ensures)
 
 pub returns : goal.returns
 unfolding read_of_seconds tick_of_seconds
@@ -72,4 +64,4 @@ returns c =
     ∙ ap in_range
     (worth_plus second_ticks c.rounded-count.result j2000_span c.plus.result c.plus.ensures
     ∙ ap (λ (z : ℤ). z +ℤ j2000)
-    (sym c.rounded-count.ensures.is ∙ ap (λ (z : ℤ). nearest z 65536) c.count_of_seconds.ensures.is ∙ sym (ticks_of_shares second_ticks x))))
+    (sym c.rounded-count.ensures.is ∙ ap (λ (z : ℤ). nearest z 65536) c.count_of.ensures.is ∙ sym (ticks_of_shares second_ticks x))))

@@ -1,8 +1,8 @@
 -- `dates::reading::two_part` meets its contract: both parts pass, their shares decide as the exact
 -- sum does, and the origin is taken off. Assumes nothing.
-use mathlib.Core.Path.{◌≡◌, refl, sym, ap, ◌∙◌, subst}
+use mathlib.Core.Path.{◌≡◌, sym, ap, ◌∙◌, subst}
 use mathlib.Core.Bool.{true}
-use lib.Dec.{T, lit≤, lit<}
+use lib.Dec.{T, lit≤}
 use lib.Ieee.{binary64, fits}
 use lib.IntN.{ℤ, pos, ◌-ℤ◌}
 use Rattle.numbers.specs.Rounding.{nearest}
@@ -25,14 +25,10 @@ pass : (c : Else-not-both_pass)
 pass c = flags.both _ _ (sym c.both_pass.ensures ∙ c.if-not-both_pass.false)
 
 pub sum_of_days-requires : goal.sum_of_days-requires
-sum_of_days-requires c = record { readable = readable _ _ (pass c).0; readable_2 = readable _ _ (pass c).1 }
+sum_of_days-requires c = record { first = readable _ _ (pass c).0; second = readable _ _ (pass c).1 }
 
 pub rounded-sum-requires : goal.rounded-sum-requires
-rounded-sum-requires c =
-    record {
-      span_within = c.sum_of_days.ensures.small;
-      factored = record { some = lit< tt; small = lit≤ tt; high = lit≤ tt; low = lit≤ tt };
-    }
+rounded-sum-requires c = c.sum_of_days.ensures.small
 
 constant : SpanWithin 2443144 43232184000000 origin_span
 constant = record { units = lit≤ tt; rest = lit≤ tt }
@@ -40,18 +36,14 @@ constant = record { units = lit≤ tt; rest = lit≤ tt }
 pub plus-requires : goal.plus-requires
 plus-requires c =
     record {
-      span_within = looser c.rounded-sum.result (lit≤ tt) (lit≤ tt) c.rounded-sum.ensures.small;
-      span_within_2 = looser origin_span (lit≤ tt) (lit≤ tt) constant;
+      one = looser c.rounded-sum.result (lit≤ tt) (lit≤ tt) c.rounded-sum.ensures.small;
+      other = looser origin_span (lit≤ tt) (lit≤ tt) constant;
     }
 
 pub placed-requires : goal.placed-requires
 placed-requires c =
     let r = c.rounded-sum in
-    record {
-      span_within =
-          looser c.plus.result (lit≤ tt) (lit≤ tt) (sum_sized r.result origin_span c.plus.result r.ensures.small constant c.plus.ensures);
-      reach = record { per_is = refl; most_is = refl; days = refl };
-    }
+    looser c.plus.result (lit≤ tt) (lit≤ tt) (sum_sized r.result origin_span c.plus.result r.ensures.small constant c.plus.ensures)
 
 -- what owning an `f64` tells: the format holds it
 held : (c : Start) → (T (fits binary64 c.args.first)) × (T (fits binary64 c.args.second))

@@ -9,8 +9,8 @@ use Rattle.dates.proofs.ticks.cut_tiny.Goals as goal
 
 pub returns-then-x : goal.returns-then-x
 unfolding of_bits
-returns-then-x c = sym (floor_below _ _ (below_zero c.args.x c.requires.t c.if-x.true) (le_of_lt c.requires.x_bound))
+returns-then-x c = sym (floor_below _ _ (below_zero c.args.x c.requires.finitely c.if-x.true) (le_of_lt c.requires.small))
 
 pub returns : goal.returns
 unfolding of_bits
-returns c = sym (floor_none _ _ (not_below_zero c.args.x c.requires.t c.if-x.false) c.requires.x_bound)
+returns c = sym (floor_none _ _ (not_below_zero c.args.x c.requires.finitely c.if-x.false) c.requires.small)

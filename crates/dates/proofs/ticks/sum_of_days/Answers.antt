@@ -28,11 +28,11 @@ few : (x : Float) → Readable 5000000 x → Readable 78125000 x
 few x h = readable_wider 5000000 78125000 x (lit≤ tt) h
 
 pub count_of-near-requires : goal.count_of-near-requires
-count_of-near-requires c = record { readable = few c.args.second c.requires.readable_2; factored = day }
+count_of-near-requires c = few c.args.second c.requires.second
 
 pub far_pieces-requires : goal.far_pieces-requires
 unfolding of_bits
-far_pieces-requires c = far_yes c.args.first c.requires.readable c.if-first.true
+far_pieces-requires c = far_yes c.args.first c.requires.first c.if-first.true
 
 -- the pieces of both
 module _ (c : After-far_pieces) where
@@ -81,13 +81,13 @@ returns-then-first c =
     out = rep₃ _ (λ a b c d e f. simp lin (omega arith))
 
 pub count_of-requires : goal.count_of-requires
-count_of-requires c = record { readable = few c.args.first c.requires.readable; factored = day }
+count_of-requires c = few c.args.first c.requires.first
 
 pub plus-requires : goal.plus-requires
 plus-requires c =
     record {
-      span_within = looser c.count_of.result (lit≤ tt) (lit≤ tt) c.count_of.ensures.small;
-      span_within_2 = looser c.count_of-near.result (lit≤ tt) (lit≤ tt) c.count_of-near.ensures.small;
+      one = looser c.count_of.result (lit≤ tt) (lit≤ tt) c.count_of.ensures.small;
+      other = looser c.count_of-near.result (lit≤ tt) (lit≤ tt) c.count_of-near.ensures.small;
     }
 
 pub returns : goal.returns

@@ -15,16 +15,19 @@ use Rattle.scales.specs.Tick.{furthest, is_valid}
 use Rattle.utc.specs.Leaps.{list_day, seconds}
 use Rattle.utc.specs.Days.{entry_on, is_reading, length_of, seconds_on, tai_by, tai_of}
 use Rattle.utc.specs.Readings.{utc_refused, utc_read}
-use Rattle.utc.specs.Asked.{Listed}
 use Rattle.utc.proofs.Fitting.{le_no}
 use Rattle.utc.proofs.Rules.{Moderate, moderate_size, right}
 use Rattle.utc.proofs.Standing.{entry_at, seconds_moderate}
 use Rattle.utc.proofs.Within.{Reading, is_reading_lem, reading_size}
 use Rattle.utc.proofs.reading.read.Goals as goal
 use Rattle.utc.proofs.reading.read.Goals.{After-entry_on-entry, After-length_by}
-use Rattle.utc.proofs.reading.read.Goals.{After-seconds_of-seconds, After-tai_by-tick}
-use Rattle.utc.proofs.reading.read.Goals.{Else-day-lt41317, Else-ticks-length_by, Else-ticks-lt0}
-use Rattle.utc.proofs.reading.read.Goals.{Start}
+use Rattle.utc.proofs.reading.read.Goals.{After-seconds-seconds, After-tai_by-tick}
+use Rattle.utc.proofs.reading.read.Goals.{Else-ticks-length_by, Else-ticks-lt0}
+use Rattle.utc.proofs.reading.read.Goals.{
+  Start,
+  then-day-lt-FIRST_DAY-via-then-day-lt-FIRST_DAY,
+  then-day-lt-FIRST_DAY-via-else-day-lt-FIRST_DAY+then-ticks-lt0,
+}
 
 -- a day beyond which every tick is out of the range, and up to which the formula is safe
 beyond : (seconds day ticks : ℤ) → neg_ℤ (pos 53) ≤ℤ seconds → pos 0 ≤ℤ ticks → pos 143144 <ℤ day
@@ -79,8 +82,8 @@ day_is c = read_is c.args.day c.ranges.day
 ticks_is : (c : Start) → read c.args.ticks ≡ c.args.ticks
 ticks_is c = read_is c.args.ticks c.ranges.ticks
 
-listed : (c : Else-day-lt41317) → Listed c.args.leaps.now c.args.day
-listed c = record { right = c.requires; begun = lt_no _ _ (rw (day_is (goal.at.Else-day-lt41317 c).Start) at c.if-day-lt41317.false) }
+begun : (c : Else-ticks-lt0) → pos list_day ≤ℤ c.args.day
+begun c = lt_no _ _ (rw (day_is (goal.at.Else-ticks-lt0 c).Start) at c.if-day-lt-FIRST_DAY.false)
 
 not_negative : (c : Else-ticks-lt0) → pos 0 ≤ℤ c.args.ticks
 not_negative c = lt_no _ _ (rw (ticks_is (goal.at.Else-ticks-lt0 c).Start) at c.if-ticks-lt0.false)
@@ -88,43 +91,43 @@ not_negative c = lt_no _ _ (rw (ticks_is (goal.at.Else-ticks-lt0 c).Start) at c.
 entry_is : (c : After-entry_on-entry) → c.entry_on-entry.result ≡ entry_on c.args.leaps.now c.args.day
 entry_is c = rw (day_is (goal.at.After-entry_on-entry c).Start) at c.entry_on-entry.ensures
 
-seconds_is : (c : After-seconds_of-seconds) → read c.seconds_of-seconds.result ≡ seconds_on c.args.leaps.now c.args.day
+seconds_is : (c : After-seconds-seconds) → read c.seconds-seconds.result ≡ seconds_on c.args.leaps.now c.args.day
 unfolding seconds_on
 seconds_is c =
-    read_is _ (record { sfits = c.seconds_of-seconds.type_inv }) ∙ c.seconds_of-seconds.ensures
-    ∙ ap (seconds c.args.leaps.now) (entry_is c.before)
+    read_is _ (record { sfits = c.seconds-seconds.type_inv }) ∙ c.seconds-seconds.ensures
+    ∙ ap (seconds c.args.leaps.now) (entry_is (goal.at.After-seconds-seconds c).After-entry_on-entry)
 
 length_is : (c : After-length_by) → read c.length_by.result ≡ length_of c.args.leaps.now c.args.day
 unfolding length_of
 length_is c =
     let after = read_is _ (record { sfits = c.seconds_after.type_inv }) ∙ c.seconds_after.ensures in
     read_is _ (record { sfits = c.length_by.type_inv })
-    ∙ (rw (seconds_is (goal.at.After-length_by c).After-seconds_of-seconds, after, day_is (goal.at.After-length_by c).Start) at c.length_by.ensures)
+    ∙ (rw (seconds_is (goal.at.After-length_by c).After-seconds-seconds, after, day_is (goal.at.After-length_by c).Start) at c.length_by.ensures)
 
-pub returns-then-day-lt41317 : goal.returns-then-day-lt41317
-returns-then-day-lt41317 c =
+pub returns-then-day-lt-FIRST_DAY : goal.returns-then-day-lt-FIRST_DAY
+returns-then-day-lt-FIRST_DAY c =
+    let start = (goal.at.returns-then-day-lt-FIRST_DAY c).Start in
     c.no_tick.ensures
     ∙ no_reading c.args.leaps.now c.args.day c.args.ticks
-    (early c.args.leaps.now c.args.day c.args.ticks (lt_yes _ _ (rw (day_is (goal.at.returns-then-day-lt41317 c).Start) at c.if-day-lt41317.true)))
-
-pub returns-then-ticks-lt0 : goal.returns-then-ticks-lt0
-returns-then-ticks-lt0 c =
-    c.no_tick-then-ticks-lt0.ensures
-    ∙ no_reading c.args.leaps.now c.args.day c.args.ticks
-    (negative c.args.leaps.now c.args.day c.args.ticks (lt_yes _ _ (rw (ticks_is (goal.at.returns-then-ticks-lt0 c).Start) at c.if-ticks-lt0.true)))
+    (elim c.then-day-lt-FIRST_DAY.branch [
+      | then-day-lt-FIRST_DAY-via-then-day-lt-FIRST_DAY w ↦
+          early c.args.leaps.now c.args.day c.args.ticks (lt_yes _ _ (rw (day_is start) at w.if-day-lt-FIRST_DAY.true))
+      | then-day-lt-FIRST_DAY-via-else-day-lt-FIRST_DAY+then-ticks-lt0 w ↦
+          negative c.args.leaps.now c.args.day c.args.ticks (lt_yes _ _ (rw (ticks_is start) at w.if-ticks-lt0.true))
+    ])
 
 pub entry_on-entry-requires : goal.entry_on-entry-requires
-entry_on-entry-requires c = rw (day_is (goal.at.entry_on-entry-requires c).Start) (listed (goal.at.entry_on-entry-requires c).Else-day-lt41317)
+entry_on-entry-requires c = rw (day_is (goal.at.entry_on-entry-requires c).Start) (begun (goal.at.entry_on-entry-requires c).Else-ticks-lt0)
 
-pub seconds_of-seconds-requires : goal.seconds_of-seconds-requires
-seconds_of-seconds-requires c =
-    let l = listed (goal.at.seconds_of-seconds-requires c).Else-day-lt41317 in
-    rw (entry_is c) (entry_at (right _ l.right) _ l.begun).within
+pub seconds-seconds-requires : goal.seconds-seconds-requires
+seconds-seconds-requires c =
+    rw (entry_is (goal.at.seconds-seconds-requires c).After-entry_on-entry)
+    (entry_at (right _ c.requires) _ (begun (goal.at.seconds-seconds-requires c).Else-ticks-lt0)).within
 
 pub seconds_after-requires : goal.seconds_after-requires
 seconds_after-requires c =
     rw (day_is (goal.at.seconds_after-requires c).Start)
-    (record { listed = listed (goal.at.seconds_after-requires c).Else-day-lt41317; is = entry_is c.before })
+    (record { begun = begun (goal.at.seconds_after-requires c).Else-ticks-lt0; is = entry_is (goal.at.seconds_after-requires c).After-entry_on-entry })
 
 pub returns-then-ticks-length_by : goal.returns-then-ticks-length_by
 returns-then-ticks-length_by c =
@@ -138,7 +141,7 @@ returns-then-ticks-length_by c =
 right_one : (c : Else-ticks-length_by) → Reading c.args.leaps.now c.args.day c.args.ticks
 right_one c =
     record {
-      begun = (listed (goal.at.Else-ticks-length_by c).Else-day-lt41317).begun;
+      begun = begun (goal.at.Else-ticks-length_by c).Else-ticks-lt0;
       low = not_negative (goal.at.Else-ticks-length_by c).Else-ticks-lt0;
       high = le_no _ _
           (rw (length_is (goal.at.Else-ticks-length_by c).After-length_by, ticks_is (goal.at.Else-ticks-length_by c).Start) at c.if-ticks-length_by.false);
@@ -146,23 +149,23 @@ right_one c =
 
 on_day : (c : Else-ticks-length_by) → Moderate (seconds_on c.args.leaps.now c.args.day)
 on_day c =
-    let l = listed (goal.at.Else-ticks-length_by c).Else-day-lt41317 in
-    seconds_moderate (right _ l.right) _ l.begun
+    seconds_moderate (right _ c.requires) _ (begun (goal.at.Else-ticks-length_by c).Else-ticks-lt0)
 
-pub returns-then-day-gt143144 : goal.returns-then-day-gt143144
-returns-then-day-gt143144 c =
-    c.no_tick-then-day-gt143144.ensures
-    ∙ far c.args.leaps.now c.args.day c.args.ticks (right_one (goal.at.returns-then-day-gt143144 c).Else-ticks-length_by)
-    (on_day (goal.at.returns-then-day-gt143144 c).Else-ticks-length_by)
-    (lt_yes _ _ (rw (day_is (goal.at.returns-then-day-gt143144 c).Start) at c.if-day-gt143144.true))
+pub returns-then-day-gt-LAST_DAY : goal.returns-then-day-gt-LAST_DAY
+returns-then-day-gt-LAST_DAY c =
+    c.no_tick-then-day-gt-LAST_DAY.ensures
+    ∙ far c.args.leaps.now c.args.day c.args.ticks (right_one (goal.at.returns-then-day-gt-LAST_DAY c).Else-ticks-length_by)
+    (on_day (goal.at.returns-then-day-gt-LAST_DAY c).Else-ticks-length_by)
+    (lt_yes _ _ (rw (day_is (goal.at.returns-then-day-gt-LAST_DAY c).Start) at c.if-day-gt-LAST_DAY.true))
 
 pub tai_by-tick-requires : goal.tai_by-tick-requires
 tai_by-tick-requires c =
     let h = right_one (goal.at.tai_by-tick-requires c).Else-ticks-length_by in
-    rw (seconds_is c.before.before.before.before, day_is (goal.at.tai_by-tick-requires c).Start, ticks_is (goal.at.tai_by-tick-requires c).Start)
+    rw (seconds_is (goal.at.tai_by-tick-requires c).After-seconds-seconds,
+    day_is (goal.at.tai_by-tick-requires c).Start, ticks_is (goal.at.tai_by-tick-requires c).Start)
     (record {
       few = moderate_size (on_day (goal.at.tai_by-tick-requires c).Else-ticks-length_by);
-      near = near c.args.day h.begun (lt_no _ _ (rw (day_is (goal.at.tai_by-tick-requires c).Start) at c.if-day-gt143144.false));
+      near = near c.args.day h.begun (lt_no _ _ (rw (day_is (goal.at.tai_by-tick-requires c).Start) at c.if-day-gt-LAST_DAY.false));
       short = reading_size h;
     })
 
@@ -171,7 +174,8 @@ tick_is : (c : After-tai_by-tick)
 unfolding tai_of
 tick_is c =
     read_is _ (record { sfits = c.tai_by-tick.type_inv })
-    ∙ (rw (seconds_is c.before.before.before.before.before, day_is (goal.at.After-tai_by-tick c).Start, ticks_is (goal.at.After-tai_by-tick c).Start)
+    ∙ (rw (seconds_is (goal.at.After-tai_by-tick c).After-seconds-seconds,
+    day_is (goal.at.After-tai_by-tick c).Start, ticks_is (goal.at.After-tai_by-tick c).Start)
     at c.tai_by-tick.ensures)
 
 pub returns-then-valid : goal.returns-then-valid

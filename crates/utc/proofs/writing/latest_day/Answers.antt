@@ -81,8 +81,8 @@ overflow_add-since c = rw (tick_is c) (fits c.args.tick c.requires)
 pub overflow_cast-since : goal.overflow_cast-since
 overflow_cast-since c = rw (tick_is c, since_is c) (cast c.args.tick c.requires)
 
-pub overflow_cast-result : goal.overflow_cast-result
-overflow_cast-result c = rw (tick_is c, since_is c) (days_fit c.args.tick c.requires)
+pub overflow_cast-result-2 : goal.overflow_cast-result-2
+overflow_cast-result-2 c = rw (tick_is c, since_is c) (days_fit c.args.tick c.requires)
 
 pub overflow_add-result : goal.overflow_add-result
 overflow_add-result c = rw (tick_is c, since_is c, days c.args.tick c.requires) (day_fits c.args.tick c.requires)

@@ -47,7 +47,8 @@ day_is c = read_is _ (record { sfits = c.latest_day-day.type_inv }) ∙ (rw (tic
 
 pub day_start-start-requires : goal.day_start-start-requires
 day_start-start-requires c =
-    rw (day_is c) (latest_near c.args.leaps.now c.requires.right c.args.tick (writable c.args.tick c.requires.valid (grind (arith, ints))))
+    rw (day_is (goal.at.day_start-start-requires c).After-latest_day-day)
+    (latest_near c.args.leaps.now c.requires.right c.args.tick (writable c.args.tick c.requires.valid (grind (arith, ints))))
 
 start_is : (c : After-day_start-start) → read c.day_start-start.result
     ≡ day_start c.args.leaps.now (latest_day c.args.tick)
@@ -70,7 +71,7 @@ overflow_sub-result c = rw (tick_is (goal.at.overflow_sub-result c).Start, start
 pub returns-then-start-tick : goal.returns-then-start-tick
 returns-then-start-tick c =
     rw (
-      day_is c.before.before,
+      day_is (goal.at.returns-then-start-tick c).After-latest_day-day,
       tick_is (goal.at.returns-then-start-tick c).Start,
       start_is (goal.at.returns-then-start-tick c).After-day_start-start,
       read_is
@@ -85,7 +86,7 @@ not_begun c = le_no _ _ (rw (start_is (goal.at.Else-start-tick c).After-day_star
 day_size : (day : ℤ) → nat_abs (day -ℤ pos 43144) ≤ 100000 → nat_abs day ≤ 200000
 day_size = rep _ (λ a b. simp lin (omega arith))
 
-nearby : (c : Else-start-tick) → NearListed c.args.leaps.now (latest_day c.args.tick -ℤ pos 1)
+nearby : (c : Else-start-tick) → NearListed (latest_day c.args.tick -ℤ pos 1)
 nearby c =
     before_near c.args.leaps.now c.requires.right c.args.tick (writable c.args.tick c.requires.valid (grind (arith, ints))) (not_begun c)
 
@@ -95,16 +96,19 @@ day_fits c =
     fits_small day 200000 (day_size day (nearby c).near) (lit< tt)
 
 pub overflow_sub-before : goal.overflow_sub-before
-overflow_sub-before c = rw (day_is c.before.before) (day_fits c)
+overflow_sub-before c = rw (day_is (goal.at.overflow_sub-before c).After-latest_day-day) (day_fits c)
 
 pub day_start-start-requires-2 : goal.day_start-start-requires-2
-day_start-start-requires-2 c = rw (day_is c.before.before, read_is _ (day_fits c)) (nearby c)
+day_start-start-requires-2 c =
+    let other = (goal.at.day_start-start-requires-2 c).Else-start-tick in
+    rw (day_is (goal.at.day_start-start-requires-2 c).After-latest_day-day, read_is _ (day_fits other)) (nearby other)
 
 start_is_2 : (c : After-day_start-start-2) → read c.day_start-start-2.result
     ≡ day_start c.args.leaps.now (latest_day c.args.tick -ℤ pos 1)
 start_is_2 c =
     read_is _ (record { sfits = c.day_start-start-2.type_inv })
-    ∙ (rw (day_is c.before.before.before, read_is _ (day_fits c.before)) at c.day_start-start-2.ensures)
+    ∙ (rw (day_is (goal.at.After-day_start-start-2 c).After-latest_day-day, read_is _ (day_fits (goal.at.After-day_start-start-2 c).Else-start-tick))
+    at c.day_start-start-2.ensures)
 
 there : (c : Else-start-tick) → Within c.args.leaps.now c.args.tick (latest_day c.args.tick -ℤ pos 1)
 there c =
@@ -115,9 +119,16 @@ there_fits : (c : Else-start-tick)
 there_fits c = ticks_fit c.args.leaps.now c.args.tick _ c.requires.right (there c)
 
 pub overflow_sub-result-2 : goal.overflow_sub-result-2
-overflow_sub-result-2 c = rw (tick_is (goal.at.overflow_sub-result-2 c).Start, start_is_2 c) (there_fits c.before)
+overflow_sub-result-2 c = rw (tick_is (goal.at.overflow_sub-result-2 c).Start, start_is_2 c) (there_fits (goal.at.overflow_sub-result-2 c).Else-start-tick)
 
 pub returns : goal.returns
 returns c =
-    rw (day_is c.before.before.before, read_is _ (day_fits c.before), tick_is (goal.at.returns c).Start, start_is_2 c, read_is _ (there_fits c.before))
-    (sym (within_written c.args.leaps.now c.requires.right c.args.tick _ (there c.before)))
+    let other = (goal.at.returns c).Else-start-tick in
+    rw (
+      day_is (goal.at.returns c).After-latest_day-day,
+      read_is _ (day_fits other),
+      tick_is (goal.at.returns c).Start,
+      start_is_2 c,
+      read_is _ (there_fits other),
+    )
+    (sym (within_written c.args.leaps.now c.requires.right c.args.tick _ (there other)))

@@ -1,4 +1,5 @@
--- `dates::span::plus` meets its contract: numbers up to 2^61, and their sums, fit. Assumes nothing.
+-- `dates::span::Span::plus` meets its contract: numbers up to 2^61, and their sums, fit. Assumes
+-- nothing.
 use mathlib.Core.Path.{◌≡◌, ◌∙◌}
 use Prim.Native.Nat.{◌≤◌}
 use native.Mathlib.Omega.{arith}
@@ -8,7 +9,7 @@ use mir.Val.{SFits, to_z, of_z}
 use mir.ValLaws.{to_z-of_z}
 use Rattle.numbers.proofs.Order.{size-+}
 use Rattle.numbers.proofs.Machine.{fits}
-use Rattle.dates.proofs.span.plus.Goals as goal
+use Rattle.dates.proofs.span.Span.plus.Goals as goal
 
 module _ (x y : ℤ) (h : nat_abs x ≤ 2305843009213693952) (k : nat_abs y ≤ 2305843009213693952) where
   back : (z : ℤ) → nat_abs z ≤ 2305843009213693952 → to_z w64 (of_z w64 z) ≡ z
@@ -21,14 +22,14 @@ module _ (x y : ℤ) (h : nat_abs x ≤ 2305843009213693952) (k : nat_abs y ≤ 
   sum_is = to_z-of_z w64 _ added ∙ rw (back x h, back y k)
 
 pub overflow_add-result : goal.overflow_add-result
-overflow_add-result c = added c.args.a.units c.args.b.units c.requires.span_within.units c.requires.span_within_2.units
+overflow_add-result c = added c.args.self.units c.args.other.units c.requires.one.units c.requires.other.units
 
 pub overflow_add-result-2 : goal.overflow_add-result-2
-overflow_add-result-2 c = added c.args.a.rest c.args.b.rest c.requires.span_within.rest c.requires.span_within_2.rest
+overflow_add-result-2 c = added c.args.self.rest c.args.other.rest c.requires.one.rest c.requires.other.rest
 
 pub returns : goal.returns
 returns c =
     record {
-      units_are = sum_is c.args.a.units c.args.b.units c.requires.span_within.units c.requires.span_within_2.units;
-      rest_is = sum_is c.args.a.rest c.args.b.rest c.requires.span_within.rest c.requires.span_within_2.rest;
+      units_are = sum_is c.args.self.units c.args.other.units c.requires.one.units c.requires.other.units;
+      rest_is = sum_is c.args.self.rest c.args.other.rest c.requires.one.rest c.requires.other.rest;
     }

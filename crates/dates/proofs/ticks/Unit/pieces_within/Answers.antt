@@ -1,5 +1,5 @@
--- `dates::ticks::pieces_within` meets its contract: so few digits are shifted without loss. Assumes
--- nothing.
+-- `dates::ticks::Unit::pieces_within` meets its contract: so few digits are shifted without loss.
+-- Assumes nothing.
 use mathlib.Core.Path.{◌≡◌, refl, ap, ◌∙◌}
 use Prim.Native.Nat.{◌*◌, ◌%◌, ◌^◌, ◌<◌, ◌≤◌}
 use native.Mathlib.Nat.{le_trans, lt_of_lt_of_le, mul-le-mul_left, mul-lt-mul_of_pos_right}
@@ -17,8 +17,8 @@ use Rattle.numbers.proofs.Ring.{one-*}
 use Rattle.numbers.proofs.Rounding.{floor_small}
 use Rattle.dates.specs.Inner.{left_by}
 use Rattle.dates.proofs.Values.{pieces_are}
-use Rattle.dates.proofs.ticks.pieces_within.Goals as goal
-use Rattle.dates.proofs.ticks.pieces_within.Goals.{Start}
+use Rattle.dates.proofs.ticks.Unit.pieces_within.Goals as goal
+use Rattle.dates.proofs.ticks.Unit.pieces_within.Goals.{Start}
 
 module _ (s : Start) where
   abbrev digits : ℤ
@@ -29,8 +29,8 @@ module _ (s : Start) where
 
   few : nat_abs digits * 2 ^ s.args.more < 2 ^ 63
   few =
-      lt_of_lt_of_le (mul-lt-mul_of_pos_right s.requires.digits_bound (pow_pos s.args.more))
-      (le_trans (mul-le-mul_left (2 ^ 53) (pow_mono s.requires.more_bound)) (lit≤ tt))
+      lt_of_lt_of_le (mul-lt-mul_of_pos_right s.requires.few (pow_pos s.args.more))
+      (le_trans (mul-le-mul_left (2 ^ 53) (pow_mono s.requires.shift)) (lit≤ tt))
 
   all_is : to_z w64 (of_z w64 digits * 2 ^ s.args.more % 18446744073709551616) ≡ power *ℤ digits
   all_is = shl_is digits s.args.more few
@@ -45,10 +45,10 @@ returns c =
     let units = floor_div (power (goal.at.returns c).Start *ℤ digits (goal.at.returns c).Start) (2 ^ 31) in
     let fit = fits_small units (2 ^ 59) (units_small (goal.at.returns c).Start) (lit< tt) in
     rw (all_is (goal.at.returns c).Start, shr_floor (power (goal.at.returns c).Start *ℤ digits (goal.at.returns c).Start) (2 ^ 31), read_is units fit)
-    (pieces_are c.args.odd (power (goal.at.returns c).Start *ℤ digits (goal.at.returns c).Start) units _ c.requires.cut.small
+    (pieces_are c.args.self.odd (power (goal.at.returns c).Start *ℤ digits (goal.at.returns c).Start) units _ c.args.self.factored.small
     (units_small (goal.at.returns c).Start) refl
     (read_is c.cut_product.result (record { sfits = c.cut_product.type_inv })
     ∙ c.cut_product.ensures
-    ∙ ap (λ (z : ℤ). floor_div (pos c.args.odd *ℤ z) (2 ^ 31))
+    ∙ ap (λ (z : ℤ). floor_div (pos c.args.self.odd *ℤ z) (2 ^ 31))
     (read_is c.last_digits.result (record { sfits = c.last_digits.type_inv }) ∙ c.last_digits.ensures
     ∙ ap (left_by (2 ^ 31)) (one-* _ ∙ all_is (goal.at.returns c).Start))))

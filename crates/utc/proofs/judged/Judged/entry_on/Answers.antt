@@ -9,10 +9,10 @@ use Rattle.utc.specs.Leaps.{entries, first_day}
 use Rattle.utc.proofs.Fitting.{le_no}
 use Rattle.utc.proofs.Rules.{Right, before_later, right}
 use Rattle.utc.proofs.Standing.{at_entry}
-use Rattle.utc.proofs.entries.entry_on.Invariants.{Halved}
-use Rattle.utc.proofs.entries.entry_on.Goals as goal
-use Rattle.utc.proofs.entries.entry_on.Goals.{After-first_day, Start, else-first_day-day}
-use Rattle.utc.proofs.entries.entry_on.Goals.{then-first_day-day}
+use Rattle.utc.proofs.judged.Judged.entry_on.Invariants.{Halved}
+use Rattle.utc.proofs.judged.Judged.entry_on.Goals as goal
+use Rattle.utc.proofs.judged.Judged.entry_on.Goals.{After-first_day, Start, else-first_day-day}
+use Rattle.utc.proofs.judged.Judged.entry_on.Goals.{then-first_day-day}
 
 -- ---- a turn
 half_few : (n k : ℕ) → 0 < k → n ≤ 2 ^ k → n - n / 2 ≤ 2 ^ (k - 1)
@@ -45,52 +45,53 @@ module _ {leaps : List ℤ} {day : ℤ} {low left turns : ℕ} (i : Halved leaps
 day_is : (c : Start) → read c.args.day ≡ c.args.day
 day_is c = read_is c.args.day c.ranges.day
 
-pub loop-turns-init : goal.loop-turns-init
-unfolding entries
-loop-turns-init c =
-    let r = right c.args.leaps.now c.requires.right in
-    rw (day_is c)
+pub loop-turn-init : goal.loop-turn-init
+loop-turn-init c =
+    let r = right c.args.self.leaps.0.now c.args.self.right in
+    rw (day_is (goal.at.loop-turn-init c).Start, c.len-left.ensures)
     (record {
       some = r.some;
       within = omega arith;
       few = r.few;
-      begun = rw r.day c.requires.begun;
+      begun = rw r.day c.requires;
       after = λ h. let no : ⊥ = omega arith in absurd no;
     })
 
 pub overflow_add-low : goal.overflow_add-low
 unfolding entries
-overflow_add-low c = let i = c.loop-turns.invariant in omega arith
+overflow_add-low c = let i = c.loop-turn.invariant in omega arith
 
 pub first_day-requires : goal.first_day-requires
-first_day-requires c = let i = c.loop-turns.invariant in omega arith
+first_day-requires c = let i = c.loop-turn.invariant in omega arith
 
 middle_is : (c : After-first_day) → read c.first_day.result
-    ≡ first_day c.args.leaps.now (c.loop-turns.low + c.loop-turns.left / 2)
+    ≡ first_day c.args.self.leaps.0.now (c.loop-turn.low + c.loop-turn.left / 2)
 middle_is c = read_is _ (record { sfits = c.first_day.type_inv }) ∙ c.first_day.ensures
 
 pub overflow_add-low-then-first_day-day : goal.overflow_add-low-then-first_day-day
 unfolding entries
-overflow_add-low-then-first_day-day c = let i = c.loop-turns.invariant in omega arith
+overflow_add-low-then-first_day-day c = let i = c.loop-turn.invariant in omega arith
 
 pub overflow_sub-left : goal.overflow_sub-left
 overflow_sub-left c = omega arith
 
-pub overflow_sub-turns : goal.overflow_sub-turns
-overflow_sub-turns c = omega arith
+pub loop-turn-smaller : goal.loop-turn-smaller
+loop-turn-smaller c = omega arith
 
-pub loop-turns-smaller : goal.loop-turns-smaller
-loop-turns-smaller c = omega arith
+-- a turn fewer is left
+fewer : (turn : ℕ) → 6 - turn - 1 ≡ 6 - (turn + 1)
+fewer turn = omega arith
 
-pub loop-turns-preserved : goal.loop-turns-preserved
-loop-turns-preserved c =
-    let i = c.loop-turns.invariant in
-    let middle = middle_is (goal.at.loop-turns-preserved c).After-first_day in
-    elim c.if-first_day-day.branch [
+pub loop-turn-preserved : goal.loop-turn-preserved
+loop-turn-preserved c =
+    let i = c.loop-turn.invariant in
+    let middle = middle_is (goal.at.loop-turn-preserved c).After-first_day in
+    rw (← fewer c.loop-turn._turn)
+    (elim c.if-first_day-day.branch [
       | then-first_day-day w ↦ rw w.low-is (later i (omega arith) (le_yes _ _ (rw middle at w.if-first_day-day.true)))
-      | else-first_day-day w ↦ rw w.low-is (earlier i (omega arith) (right c.args.leaps.now c.requires.right)
+      | else-first_day-day w ↦ rw w.low-is (earlier i (omega arith) (right c.args.self.leaps.0.now c.args.self.right)
           (le_no _ _ (rw middle at w.if-first_day-day.false)))
-    ]
+    ])
 
 -- no turn is left, and so one entry
 ended : {leaps : List ℤ} {day : ℤ} {low left : ℕ} → Halved leaps day low left 0 → suc low < entries leaps
@@ -101,7 +102,7 @@ ended {leaps} {day} {low} {left} i l =
 
 pub returns : goal.returns
 returns c =
-    let none : c.loop-turns.turns ≡ 0 = omega arith in
-    let i = rw (day_is (goal.at.returns c).Start, none) at c.loop-turns.invariant in
-    sym (at_entry (right c.args.leaps.now c.requires.right) c.args.day c.loop-turns.low
+    let none : 6 - c.loop-turn._turn ≡ 0 = omega arith in
+    let i = rw (day_is (goal.at.returns c).Start, none) at c.loop-turn.invariant in
+    sym (at_entry (right c.args.self.leaps.0.now c.args.self.right) c.args.day c.loop-turn.low
     (record { within = omega (arith, i.some, i.within); begun = i.begun; next = ended i }))

@@ -1,4 +1,4 @@
--- `dates::ticks::rounded` meets its contract: every number on the way fits. Assumes nothing.
+-- `dates::ticks::Unit::rounded` meets its contract: every number on the way fits. Assumes nothing.
 use mathlib.Core.Path.{◌≡◌, ap, ◌∙◌}
 use Prim.Native.Nat.{ℕ, ◌+◌, ◌*◌, ◌^◌, ◌≤◌}
 use native.Mathlib.Nat.{le_trans, mul-le-mul_right}
@@ -16,18 +16,18 @@ use Rattle.numbers.proofs.Ring.{one-*}
 use Rattle.numbers.proofs.Rounding.{floor_rest, floor_small}
 use Rattle.dates.specs.Inner.{left_by}
 use Rattle.dates.proofs.Sums.{rounded_are}
-use Rattle.dates.proofs.ticks.rounded.Goals as goal
-use Rattle.dates.proofs.ticks.rounded.Goals.{After-last_digits-part, Start}
+use Rattle.dates.proofs.ticks.Unit.rounded.Goals as goal
+use Rattle.dates.proofs.ticks.Unit.rounded.Goals.{After-last_digits-part, Start}
 
 module _ (c : After-last_digits-part) where
   abbrev s : Start
   s = (goal.at.After-last_digits-part c).Start
 
   abbrev odd : ℕ
-  odd = s.args.odd
+  odd = s.args.self.odd
 
   abbrev d : ℕ
-  d = 2 ^ (16 + s.args.twos)
+  d = 2 ^ (16 + s.args.self.twos)
 
   abbrev pieces : ℤ
   pieces = s.args.count.units
@@ -49,13 +49,13 @@ module _ (c : After-last_digits-part) where
   shares_of = read product_of +ℤ read rest
 
   pieces_are : read pieces ≡ pieces
-  pieces_are = read_is pieces (fits_small pieces (2 ^ 60) s.requires.span_within.units (lit< tt))
+  pieces_are = read_is pieces (fits_small pieces (2 ^ 60) s.requires.units (lit< tt))
 
   rest_is : read rest ≡ rest
-  rest_is = read_is rest (fits_small rest (2 ^ 54) s.requires.span_within.rest (lit< tt))
+  rest_is = read_is rest (fits_small rest (2 ^ 54) s.requires.rest (lit< tt))
 
   odd_is : to_z w64 odd ≡ pos odd
-  odd_is = let h = s.requires.factored.small in to_z_pos w64 odd (omega arith)
+  odd_is = let h = s.args.self.factored.small in to_z_pos w64 odd (omega arith)
 
   part_is : read c.last_digits-part.result ≡ left_by d pieces
   part_is =
@@ -65,14 +65,14 @@ module _ (c : After-last_digits-part) where
 
   part_small : nat_abs (left_by d pieces) ≤ 4294967296
   part_small =
-      le_trans (floor_rest pieces d (pow_pos (16 + s.args.twos)))
-      (pow_mono {i = 16 + s.args.twos} {j = 32} (let h = s.requires.factored.low in omega arith))
+      le_trans (floor_rest pieces d (pow_pos (16 + s.args.self.twos)))
+      (pow_mono {i = 16 + s.args.self.twos} {j = 32} (let h = s.args.self.factored.low in omega arith))
 
   product_small : nat_abs product ≤ 6442450944000000000
-  product_small = size-* (pos odd) (left_by d pieces) s.requires.factored.small part_small
+  product_small = size-* (pos odd) (left_by d pieces) s.args.self.factored.small part_small
 
   shares_small : nat_abs shares ≤ 6460465342509481984
-  shares_small = size-+ product rest product_small s.requires.span_within.rest
+  shares_small = size-+ product rest product_small s.requires.rest
 
   product_is : product_of ≡ product
   product_is = rw (odd_is, part_is)
@@ -108,13 +108,13 @@ module _ (c : After-last_digits-part) where
 
   units_small : nat_abs (floor_div pieces d) ≤ 100000000000
   units_small =
-      floor_small pieces d 100000000000 (pow_pos (16 + s.args.twos))
-      (le_trans s.requires.span_within.units
+      floor_small pieces d 100000000000 (pow_pos (16 + s.args.self.twos))
+      (le_trans s.requires.units
       (le_trans (lit≤ {m = 2 ^ 60} {n = 2 ^ 25 * 100000000000} tt)
-      (mul-le-mul_right 100000000000 (pow_mono {i = 25} {j = 16 + s.args.twos} (let h = s.requires.factored.high in omega arith)))))
+      (mul-le-mul_right 100000000000 (pow_mono {i = 25} {j = 16 + s.args.self.twos} (let h = s.args.self.factored.high in omega arith)))))
 
 pub overflow_mul-shares : goal.overflow_mul-shares
-overflow_mul-shares c = product_fits c
+overflow_mul-shares c = product_fits (goal.at.overflow_mul-shares c).After-last_digits-part
 
 pub overflow_add-shares : goal.overflow_add-shares
 overflow_add-shares c = shares_fit (goal.at.overflow_add-shares c).After-last_digits-part
@@ -140,7 +140,7 @@ returns c =
       read_is ticks fine,
     )
     (record {
-      is = rounded_are (odd (goal.at.returns c).After-last_digits-part) (s (goal.at.returns c).After-last_digits-part).args.twos
+      is = rounded_are (odd (goal.at.returns c).After-last_digits-part) (s (goal.at.returns c).After-last_digits-part).args.self.twos
           (pieces (goal.at.returns c).After-last_digits-part) (rest (goal.at.returns c).After-last_digits-part);
       small = record {
         units = units_small (goal.at.returns c).After-last_digits-part;
