@@ -99,10 +99,7 @@ fn told(rank: usize, place: usize) -> Result<(), Refusal>
 }
 
 // The one pass over a table's granules, by what looks at each.
-fn pass_over<F: Fn(Scan, usize) -> Option<Scan>>(
-    table: Table,
-    look: F,
-) -> Result<(), Refusal>
+fn pass_over<F: Fn(Scan, usize) -> Option<Scan>>(table: Table, look: F) -> Result<(), Refusal>
     requires { (scan : _) (g : ℕ) → g < table.count → F.pre look scan g }
     ensures { (granule : ℕ → List ℤ) → Finds (F.post look) table granule
         → result ≡ tested_by (granule_tests table granule) }

@@ -47,12 +47,7 @@ fn turn(
 
 // Turn by turn until the input ends; then the last line, if its newline is missing. The lines are
 // counted from 1, over all turns. There are more turns than any run takes.
-fn run(
-    rt: &(impl Input + Print + Eprint),
-    text: &mut [u8],
-    over: Over,
-    out: &mut [u8],
-)
+fn run(rt: &(impl Input + Print + Eprint), text: &mut [u8], over: Over, out: &mut [u8])
     requires { Large text.old out.old }
 {
     let mut kept = 0;
@@ -85,11 +80,27 @@ pub fn run_over(rt: &(impl Input + Print + Eprint), bytes: &[u8], text: &mut [u8
             let room = taken(bytes, table);
             let many = how_many(table);
             let coefficients = &room[..many];
-            run(rt, text, Over { judged, coefficients }, out);
+            run(
+                rt,
+                text,
+                Over {
+                    judged,
+                    coefficients,
+                },
+                out,
+            );
         }
         Err(_) => {
             let coefficients = &[];
-            run(rt, text, Over { judged, coefficients }, out);
+            run(
+                rt,
+                text,
+                Over {
+                    judged,
+                    coefficients,
+                },
+                out,
+            );
         }
     }
 }

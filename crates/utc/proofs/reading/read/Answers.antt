@@ -161,8 +161,11 @@ returns-then-day-gt-LAST_DAY c =
 pub tai_by-tick-requires : goal.tai_by-tick-requires
 tai_by-tick-requires c =
     let h = right_one (goal.at.tai_by-tick-requires c).Else-ticks-length_by in
-    rw (seconds_is (goal.at.tai_by-tick-requires c).After-seconds-seconds,
-    day_is (goal.at.tai_by-tick-requires c).Start, ticks_is (goal.at.tai_by-tick-requires c).Start)
+    rw (
+      seconds_is (goal.at.tai_by-tick-requires c).After-seconds-seconds,
+      day_is (goal.at.tai_by-tick-requires c).Start,
+      ticks_is (goal.at.tai_by-tick-requires c).Start,
+    )
     (record {
       few = moderate_size (on_day (goal.at.tai_by-tick-requires c).Else-ticks-length_by);
       near = near c.args.day h.begun (lt_no _ _ (rw (day_is (goal.at.tai_by-tick-requires c).Start) at c.if-day-gt-LAST_DAY.false));
@@ -174,8 +177,11 @@ tick_is : (c : After-tai_by-tick)
 unfolding tai_of
 tick_is c =
     read_is _ (record { sfits = c.tai_by-tick.type_inv })
-    ∙ (rw (seconds_is (goal.at.After-tai_by-tick c).After-seconds-seconds,
-    day_is (goal.at.After-tai_by-tick c).Start, ticks_is (goal.at.After-tai_by-tick c).Start)
+    ∙ (rw (
+      seconds_is (goal.at.After-tai_by-tick c).After-seconds-seconds,
+      day_is (goal.at.After-tai_by-tick c).Start,
+      ticks_is (goal.at.After-tai_by-tick c).Start,
+    )
     at c.tai_by-tick.ensures)
 
 pub returns-then-valid : goal.returns-then-valid
