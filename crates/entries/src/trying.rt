@@ -32,7 +32,8 @@ fn ends_of(first: i64, ticks: &[i64]) -> Ends
 
 // Whether a tick is accepted.
 fn is_accepted(from: Scale, to: Scale, tick: i64, kept: Kept<'_>) -> bool
-    ensures { result ≡ is_accepted (entry_of from to kept.entry.table kept.entry.coefficients.now tick) }
+    ensures { result
+        ≡ is_accepted (entry_of from to kept.entry.table kept.entry.coefficients.now tick) }
 {
     between(from, to, ranged(tick), kept).is_ok()
 }
@@ -52,9 +53,9 @@ fn tried_each(from: Scale, to: Scale, ticks: &[i64], kept: Kept<'_>) -> Result<u
     Ok(steps_between(from, to))
 }
 
-// Tries every entry: the earliest refusal, or the path's steps. Accepted ticks form an interval (see
-// proofs/Interval), so that where the earliest and the latest are accepted the others need not be
-// walked.
+// Tries every entry: the earliest refusal, or the path's steps. Accepted ticks form an interval
+// (see proofs/Interval), so that where the earliest and the latest are accepted the others need not
+// be walked.
 pub fn tried(from: Scale, to: Scale, ticks: &[i64], kept: Kept<'_>) -> Result<u32, RefusedAt>
     ensures { result ≡ all_tried from to ticks.now kept.entry.table kept.entry.coefficients.now }
 {

@@ -18,7 +18,8 @@ all_by step ticks = map (λ tick. stepped_tick (step tick)) ticks
 
 -- what a step comes to, by a rule, from every tick of 64 bits
 abbrev pub Steps : (ℤ → Stepped → Type 0) → (ℤ → Stepped) → Type 0
-Steps comes rule = (tick : ℤ) → FitsSigned w64 tick → (to : Stepped) → comes tick to → to ≡ rule tick
+Steps comes rule =
+    (tick : ℤ) → FitsSigned w64 tick → (to : Stepped) → comes tick to → to ≡ rule tick
 
 -- as many answers as ticks, and every tick is accepted
 pub record Tried (from to : Scale) (ticks answers : List ℤ) (kept : Option Table)
@@ -33,7 +34,8 @@ pub record Filled (answer : Batched) (entry : ℤ → Answer) (ticks answers ans
   pub is : r ≡ answer
   pub list : answers' ≡ batched_left answer (ticks_by entry ticks) answers
 
-abbrev pub FilledOver : Scale → Scale → List ℤ → List ℤ → List ℤ → Option Table → List ℤ → Batched → Type 0
+abbrev pub FilledOver : Scale → Scale → List ℤ → List ℤ → List ℤ → Option Table → List ℤ
+    → Batched → Type 0
 FilledOver from to ticks answers answers' kept coefficients r =
     Filled (all_tried from to ticks kept coefficients) (entry_of from to kept coefficients) ticks
     answers answers' r

@@ -5,4 +5,6 @@ use Rattle.walk.proofs.Walking.{walk_left}
 use Rattle.walk.proofs.walk.walk.Given as goal
 
 abbrev pub invariant-loop-steps : goal.invariant-loop-steps
-invariant-loop-steps l = walk_left l.kept.table l.kept.coefficients.now l.to l.steps l.epoch ≡ walk_left l.kept.table l.kept.coefficients.now l.to 0 l.initial.epoch
+invariant-loop-steps l =
+    walk_left l.kept.table l.kept.coefficients.now l.to l.steps l.epoch
+    ≡ walk_left l.kept.table l.kept.coefficients.now l.to 0 l.initial.epoch

@@ -1,5 +1,5 @@
--- `walk::kept::Kept::to_tdb` meets its contract: a table that is kept was accepted, and the step over
--- it is the ephemeris'. Assumes nothing.
+-- `walk::kept::Kept::to_tdb` meets its contract: a table that is kept was accepted, and the step
+-- over it is the ephemeris'. Assumes nothing.
 use borrow.Author.Rules.{rules}
 use Rattle.numbers.proofs.Machine.{read_is}
 use Rattle.walk.proofs.kept.Kept.to_tdb.Goals as goal
