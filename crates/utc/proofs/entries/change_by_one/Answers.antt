@@ -1,5 +1,5 @@
--- `utc::entries::change_by_one` meets its contract: two numbers are one apart where the second is one
--- more than the first, or one less. Assumes nothing.
+-- `utc::entries::change_by_one` meets its contract: two numbers are one apart where the second is
+-- one more than the first, or one less. Assumes nothing.
 use borrow.Author.Tests.{eq-eqb}
 use mathlib.Core.Path.{◌≡◌, sym, ◌∙◌, ap}
 use native.Mathlib.Omega.{arith}

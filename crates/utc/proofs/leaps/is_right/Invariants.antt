@@ -1,5 +1,6 @@
 -- `utc::leaps::is_right` meets its contract. The loop's invariant: each entry before `entry` is
--- followed as it should be, and its seconds are near. The measure is how many are left. Assumes nothing.
+-- followed as it should be, and the seconds of `entry` are at most 10 + `entry` from 0. The measure
+-- is how many are left. Assumes nothing.
 use mathlib.Core.Path.{◌≡◌}
 use mathlib.Core.Bool.{true}
 use mathlib.Core.List.{List}
