@@ -1,11 +1,16 @@
 -- What the inner functions ask of their callers, each by name, and the day with which writing
 -- begins.
-use Rattle.std.specs.Prelude.{◌≡◌, true, List, ℕ, ◌+◌, ◌*◌, ◌≤◌, ℤ, pos, neg_ℤ, nat_abs, ◌+ℤ◌}
-use Rattle.std.specs.Prelude.{◌-ℤ◌, ◌≤ℤ◌}
+use Rattle.std.specs.Prelude.{◌≡◌, true, List, ℕ, ◌*◌, ◌≤◌, ℤ, pos, neg_ℤ, nat_abs, ◌+ℤ◌}
+use Rattle.std.specs.Prelude.{◌<◌, ◌+◌, ◌-ℤ◌, ◌≤ℤ◌}
 use Rattle.numbers.specs.Rounding.{floor_div}
 use Rattle.scales.specs.Tick.{furthest, is_valid}
-use Rattle.utc.specs.Leaps.{is_list_right, list_day}
+use Rattle.utc.specs.Leaps.{entries, seconds, is_list_right, list_day}
 use Rattle.utc.specs.Days.{day_ticks, entry_on, second_ticks}
+
+-- an entry that another follows, whose seconds are within 100 of 0
+pub record Followed (leaps : List ℤ) (entry : ℕ) : Type 0 where
+  pub next : entry + 1 < entries leaps
+  pub near : nat_abs (seconds leaps entry) ≤ 100
 
 -- a day not before the list's first, and its entry
 pub record EntryOfDay (leaps : List ℤ) (day : ℤ) (entry : ℕ) : Type 0 where

@@ -1,11 +1,22 @@
 // A list of leap seconds, its entries and their rule.
-ghost use Rattle.std.specs.Prelude.{◌≡◌, ◌<◌, ◌+◌};
+ghost use Rattle.std.specs.Prelude.{◌≡◌, ◌<◌, ◌≤◌, eqb, nat_abs};
+ghost use Rattle.numbers.specs.Signs.{gap};
+ghost use Rattle.utc.specs.Asked.{Followed};
 ghost use Rattle.utc.specs.Leaps.{entries, first_day, is_next_right, is_start_right, seconds};
 
 // 'starts with day 41317 and 10 s'
 pub const FIRST_DAY: i64 = 41_317;
 
 const FIRST_SECONDS: i64 = 10;
+
+// 'seconds change by exactly one'. The seconds before are within 100 of 0, as those of a list that
+// was right so far are. By `abs_diff` a UTC reading takes a third more time.
+fn change_by_one(from: i64, to: i64) -> bool
+    requires { nat_abs from ≤ 100 }
+    ensures { result ≡ eqb (gap from to) 1 }
+{
+    to == from + 1 || to == from - 1
+}
 
 // A list as it is lent, flat: first day, seconds, first day, seconds, and so on.
 #[derive(Clone, Copy)]
@@ -46,10 +57,10 @@ impl Leaps<'_> {
     // 'days rise strictly and seconds change by exactly one', from an entry to the next.
     #[tactic(auto, unfolding(crate::specs::Leaps::is_next_right, crate::specs::Leaps::entries))]
     pub fn is_next_right(self, entry: usize) -> bool
-        requires { entry + 1 < entries self.0.now }
+        requires { Followed self.0.now entry }
         ensures { result ≡ is_next_right self.entry.0.now entry }
     {
         self.first_day(entry) < self.first_day(entry + 1)
-            && self.seconds(entry + 1).abs_diff(self.seconds(entry)) == 1
+            && change_by_one(self.seconds(entry), self.seconds(entry + 1))
     }
 }
