@@ -44,11 +44,13 @@ module _ (from to : Scale) (ticks answers : List ℤ) (bytes : List ℕ) where
   filled_judged refusal e = filled_not refusal 0 (rw e)
 
 -- ---- what is asked of an entry alone
-pub batch_fits : (from to : ℕ) (fits : Bool) (asked : Result Asked Refusal) → asked_of P.Batch P.Batch from to fits true ≡ asked
+pub batch_fits : (from to : ℕ) (fits : Bool) (asked : Result Asked Refusal)
+    → asked_of P.Batch P.Batch from to fits true ≡ asked
     → ((refusal : Refusal) → asked ≡ Err refusal → ⊥) → fits ≡ true
 batch_fits from to fits asked e sound = (both fits true (asked_lent P.Batch P.Batch from to fits true asked e sound)).0
 
-pub asked_alone : (from to : ℕ) (fits : Bool) (asked : Result Asked Refusal) → asked_of P.Batch P.Batch from to fits true ≡ asked
+pub asked_alone : (from to : ℕ) (fits : Bool) (asked : Result Asked Refusal)
+    → asked_of P.Batch P.Batch from to fits true ≡ asked
     → ((refusal : Refusal) → asked ≡ Err refusal → ⊥)
     → asked_of P.Reading P.Reading from to true true ≡ asked
 unfolding asked_of

@@ -35,7 +35,10 @@ fn batch_taken(
         to,
         ticks,
         answers,
-        Kept::over(table, &coefficients[..many]),
+        Kept {
+            table: Some(table),
+            coefficients: &coefficients[..many],
+        },
     )
 }
 
@@ -69,7 +72,16 @@ pub fn batch(
 {
     let fits = ticks.len() == answers.len();
     match asked_of(Purpose::Batch, Purpose::Batch, from, to, fits, true)? {
-        Asked::Plain(start, end) => batch_over(start, end, ticks, answers, Kept::nothing()),
+        Asked::Plain(start, end) => batch_over(
+            start,
+            end,
+            ticks,
+            answers,
+            Kept {
+                table: None,
+                coefficients: &[],
+            },
+        ),
         Asked::Crossing(start, end) => batch_crossing(start, end, ticks, answers, table),
     }
 }

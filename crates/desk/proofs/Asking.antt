@@ -37,7 +37,8 @@ module _ (purpose : Purpose) (code place : ℕ) where
   code_refused refusal e = by (is_code purpose code) e
     where
       by : (t : Bool)
-          → cond {A = Result Scale Refusal} t (Ok (named code)) (Err (record { number = 1; place = place })) ≡ Err refusal
+          → cond {A = Result Scale Refusal} t (Ok (named code)) (Err (record { number = 1; place = place }))
+          ≡ Err refusal
           → (t ≡ false) × (refusal ≡ record { number = 1; place = place })
       by true e = let z : ◌≡◌ {A = ℕ} 0 1 = cc in let no : ⊥ = omega arith in absurd no
       by false e = (refl, cc)
@@ -46,7 +47,8 @@ module _ (purpose : Purpose) (code place : ℕ) where
       → (is_code purpose code ≡ true) × (scale ≡ named code)
   code_named scale e = by (is_code purpose code) e
     where
-      by : (t : Bool) → cond {A = Result Scale Refusal} t (Ok (named code)) (Err (record { number = 1; place = place })) ≡ Ok scale
+      by : (t : Bool)
+          → cond {A = Result Scale Refusal} t (Ok (named code)) (Err (record { number = 1; place = place })) ≡ Ok scale
           → (t ≡ true) × (scale ≡ named code)
       by true e = (refl, cc)
       by false e = let z : ◌≡◌ {A = ℕ} 0 1 = cc in let no : ⊥ = omega arith in absurd no
@@ -211,7 +213,8 @@ module _ (from to : ℕ) (table : Judged) (cs : List ℤ) where
       let a = asks reads writes from to fits right in
       rw (← is) (by_between (asked_of reads writes from to fits right) a.between read ∙ rw (a.settles table))
 
-pub of_tick : (purpose : Purpose) (from to : ℕ) (tick : ℤ) (table : Judged) (cs : List ℤ) (asked : Result Asked Refusal) (read : Read)
+pub of_tick : (purpose : Purpose) (from to : ℕ) (tick : ℤ) (table : Judged) (cs : List ℤ)
+    (asked : Result Asked Refusal) (read : Read)
     → asked_of purpose purpose from to true true ≡ asked → read ≡ in_range tick
     → convert_asked asked read table cs ≡ convert_judged purpose from to tick table cs
 of_tick purpose from to tick table cs asked read is was =

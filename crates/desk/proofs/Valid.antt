@@ -162,7 +162,8 @@ module _ (reads writes : Purpose) (from to : ℕ) (fits right : Bool) (read : Re
   conversion_valid lent valid = by read valid parts.1
     where
       by : (read : Read) → ((tick : ℤ) → read ≡ Ok tick → is_valid tick ≡ true)
-          → between_of (named from) (named to) read (held_by table) cs ≡ converted_to epoch n → is_valid epoch.tick ≡ true
+          → between_of (named from) (named to) read (held_by table) cs ≡ converted_to epoch n
+          → is_valid epoch.tick ≡ true
       by (Ok tick) v e =
           walk_valid (held_by table) cs (held_by_lem table cs lent) (path (named from) (named to)) 0 (record { scale = named from; tick = tick })
           (v tick refl) e

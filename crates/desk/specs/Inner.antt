@@ -18,7 +18,8 @@ use Rattle.desk.specs.Conversion.{answering, between_of, held_by}
 
 -- ---- what is asked, before any table or reading is looked at
 abbrev pub asked_by : Check → Scale → Scale → Result Asked Refusal
-asked_by passes start end = cond (crosses start end) (Ok (A.Crossing start end)) (Ok (A.Plain start end))
+asked_by passes start end =
+    cond (crosses start end) (Ok (A.Crossing start end)) (Ok (A.Plain start end))
 asked_by (refuses refusal) start end = Err refusal
 
 unfoldable pub asked_of : Purpose → Purpose → ℕ → ℕ → Bool → Bool → Result Asked Refusal

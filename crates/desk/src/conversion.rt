@@ -44,7 +44,15 @@ fn taken_over(
 {
     let coefficients = taken(bytes, table);
     let many = how_many(table);
-    between(from, to, read, Kept::over(table, &coefficients[..many]))
+    between(
+        from,
+        to,
+        read,
+        Kept {
+            table: Some(table),
+            coefficients: &coefficients[..many],
+        },
+    )
 }
 
 // Over any bytes. This has room for the largest table, which no other conversion should pay for: a
@@ -66,7 +74,15 @@ fn convert_tick(asked: Asked, tick: i64, table: &[u8]) -> Result<Converted, Refu
     ensures { result ≡ asked_over (Ok asked) (Ok tick) table.now }
 {
     match asked {
-        Asked::Plain(start, end) => walk(start, end, tick, Kept::nothing()),
+        Asked::Plain(start, end) => walk(
+            start,
+            end,
+            tick,
+            Kept {
+                table: None,
+                coefficients: &[],
+            },
+        ),
         Asked::Crossing(start, end) => over_bytes(start, end, Ok(tick), table),
     }
 }
@@ -136,7 +152,15 @@ fn crossed(
     requires { Lent judged coefficients.now }
     ensures { result ≡ crossed_of from to read judged coefficients.now }
 {
-    between(from, to, read, Kept::over(judged?, coefficients))
+    between(
+        from,
+        to,
+        read,
+        Kept {
+            table: Some(judged?),
+            coefficients,
+        },
+    )
 }
 
 // The same of a tick over table bytes that have been judged, for callers that convert line by line.
@@ -155,7 +179,15 @@ pub fn convert_judged(
 {
     let read = ranged(tick);
     match asked_of(purpose, purpose, from, to, true, true)? {
-        Asked::Plain(start, end) => between(start, end, read, Kept::nothing()),
+        Asked::Plain(start, end) => between(
+            start,
+            end,
+            read,
+            Kept {
+                table: None,
+                coefficients: &[],
+            },
+        ),
         Asked::Crossing(start, end) => crossed(start, end, read, judged, coefficients),
     }
 }

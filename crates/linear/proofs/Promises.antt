@@ -127,7 +127,8 @@ pub never_table : {A : Type 0} (row : LineRow) (t : ℤ) → line_step row t ≡
 unfolding line_step
 never_table {A} row t e = by (is_valid t) e
   where
-    by : (valid : Bool) → cond valid (kept_in row.to (nearest_tick row.by t)) (Err Outside.Range) ≡ (Err Outside.Table) → A
+    by : (valid : Bool) → cond valid (kept_in row.to (nearest_tick row.by t)) (Err Outside.Range)
+        ≡ (Err Outside.Table) → A
     by true e = kept_inside row.to (nearest_tick row.by t) e
     by false e = let z : ◌≡◌ {A = ℕ} 0 1 = cc in let no : ⊥ = omega arith in absurd no
 

@@ -49,7 +49,8 @@ lines_read input = read_from 1 (lines_of input)
 -- understood
 abbrev pub answer_of : Judged → List ℤ → Line → Answer
 answer_of table coefficients (Ok numbers) =
-    convert_judged P.Line (code_of numbers.from) (code_of numbers.to) numbers.tick table coefficients
+    convert_judged P.Line (code_of numbers.from) (code_of numbers.to) numbers.tick
+    table coefficients
 answer_of table coefficients (Err refusal) = Err refusal
 
 -- '`to` is the code asked'. A line that is not understood asks for none, and none is printed

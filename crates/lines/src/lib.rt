@@ -51,7 +51,8 @@ fn next_line(line: u64) -> u64
 // What a line of text, given without its newline, is answered with. `line` is its number from 1,
 // the place of refusal 9.
 fn answer_to(text: &[u8], line: u64, over: Over) -> Answered
-    ensures { result ≡ answered_to over.entry.judged over.entry.coefficients.now (line_read text.now line) }
+    ensures { result ≡ answered_to over.entry.judged over.entry.coefficients.now
+        (line_read text.now line) }
 {
     match read_line(text, line) {
         Ok(numbers) => {

@@ -245,10 +245,10 @@ pub write_date : One dates.writing.write_date.Reads.Learnt
 write_date = equation
 
 -- ---- walk
-pub kept_to_tdb : One walk.step.to_tdb.Reads.Learnt
+pub kept_to_tdb : One walk.kept.Kept.to_tdb.Reads.Learnt
 kept_to_tdb = equation
 
-pub kept_to_tt : One walk.step.to_tt.Reads.Learnt
+pub kept_to_tt : One walk.kept.Kept.to_tt.Reads.Learnt
 kept_to_tt = equation
 
 pub walk_on : One walk.walk.walk.Reads.Learnt
@@ -302,14 +302,14 @@ pub write_line : OneInto printing.writing.write_line.Reads.Learnt (λ κs s. s.0
 write_line = both (λ κs a r s p. (p.0.after, p.0.holds))
 
 -- ---- lines
-pub feed : OneInto {B = List ℕ × List ℕ} lines.feed.Reads.Learnt (λ κs s. (s.0.now, s.1.1.1.1.1.0.now))
+pub feed : OneInto {B = List ℕ × List ℕ} lines.feed.Reads.Learnt (λ κs s. (s.0.now, s.1.1.1.1.0.now))
 feed = both (λ κs a r s p.
     let places = ap₂ (λ (text out : ℕ). (text, out)) p.kept.after p.put.after in (
       ap₂ (λ (places : ℕ × ℕ) (line : ℕ). record { text = places.0; out = places.1; line = line }) places p.next,
       ap₂ (λ text out. (text, out)) p.kept.holds p.put.holds,
     ))
 
-pub answer_last : OneInto lines.answer_last.Reads.Learnt (λ κs s. s.1.1.1.1.0.now)
+pub answer_last : OneInto lines.answer_last.Reads.Learnt (λ κs s. s.1.1.1.0.now)
 answer_last = both (λ κs a r s p. (p.after, p.holds))
 
 -- ---- hosts

@@ -122,7 +122,8 @@ module _ (kept : Option Table) (cs : List ℤ) where
           let place : already ≡ r.place = ap answer_place e in
           outside_table (sym (ap answer_number e))
           (subst (λ (done : ℕ). Stopped kept cs (step ∷ more) already t done (Err Outside.Table)) place (here step more already t (Err Outside.Table) s))
-      by rest (Err Outside.Range) s e = outside_range already (sym (ap answer_number e)) (sym (ap answer_place e)) (here step more already t (Err Outside.Range) s)
+      by rest (Err Outside.Range) s e =
+          outside_range already (sym (ap answer_number e)) (sym (ap answer_place e)) (here step more already t (Err Outside.Range) s)
 
 -- ---- a conversion that is refused has one of the page's reasons
 pub because : (writes : Purpose) (from to : ℕ) (reading : Reading) (leaps : List ℤ) (bytes : List ℕ) (r : Refusal)

@@ -108,7 +108,8 @@ module _ (cs : List ℤ) where
       → nat_abs v ≤ furthest
   after_asked = rep₂ _ (λ a b c d. simp sizes (omega arith))
 
-  tt_returns : (kept : Option Table) → Held kept cs → (t : ℤ) (u : Epoch) → is_valid t ≡ true → is_valid (t +ℤ pos 1) ≡ true
+  tt_returns : (kept : Option Table) → Held kept cs → (t : ℤ) (u : Epoch) → is_valid t ≡ true
+      → is_valid (t +ℤ pos 1) ≡ true
       → to_tt kept cs t ≡ Ok u → Comes (to_tdb kept cs u.tick)
   tt_returns None h t u v w e = nowhere e
   tt_returns (Some T) h t u v w e =
@@ -120,7 +121,8 @@ module _ (cs : List ℤ) where
       rw (← same_tick a.is) (tdb_comes T cs (tt_of T cs t) (earliest_of T cs t a.covered).inside valid)
 
 -- ---- each step
-pub step_returns : (kept : Option Table) (cs : List ℤ) → Held kept cs → (t : ℤ) (u : Epoch) → is_valid t ≡ true → (step : Step)
+pub step_returns : (kept : Option Table) (cs : List ℤ) → Held kept cs → (t : ℤ) (u : Epoch) → is_valid t ≡ true
+    → (step : Step)
     → (step ≡ Back Edge.Table → is_valid (t +ℤ pos 1) ≡ true) → step_of kept cs step t ≡ Ok u
     → Comes (step_of kept cs (opposite step) u.tick)
 step_returns kept cs h t u v = each_step _

@@ -67,7 +67,8 @@ module _ (kept : Option Table) (cs : List ℤ) (h : Held kept cs) (t : ℤ) (u :
       (λ v. tt_back cs kept h t u v)
 
 -- a step that finds itself outside the table is one over it
-pub step_outside : (kept : Option Table) (cs : List ℤ) (tick : ℤ) (step : Step) → step_of kept cs step tick ≡ (Err Outside.Table)
+pub step_outside : (kept : Option Table) (cs : List ℤ) (tick : ℤ) (step : Step)
+    → step_of kept cs step tick ≡ (Err Outside.Table)
     → over_table step ≡ true
 step_outside kept cs tick = each_step _
     (λ line. never_table (line_row line) tick)

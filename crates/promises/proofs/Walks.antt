@@ -62,7 +62,8 @@ module _ (epoch : Epoch) (steps : ℕ) where
       scale_walked kept cs more to (suc done) x.at (rw ends l.1) x.onwards
 
 -- over a path of one step, an answer is where the step came to
-pub one_step : (kept : Option Table) (cs : List ℤ) (step : Step) (p : List Step) → p ≡ step ∷ [] → (start e : Epoch) (m : ℕ)
+pub one_step : (kept : Option Table) (cs : List ℤ) (step : Step) (p : List Step) → p ≡ step ∷ []
+    → (start e : Epoch) (m : ℕ)
     → walk_of kept cs p 0 start ≡ converted_to e m
     → step_of kept cs step start.tick ≡ Ok e
 unfolding walk_of
@@ -128,8 +129,10 @@ module _ (writes : Purpose) (from to : ℕ) (reading : Reading) (leaps : List �
 pub record Walk (from to : ℕ) (reading : Reading) (leaps : List ℤ) (bytes : List ℕ) (epoch : Epoch) (steps : ℕ)
     : Type 0 where
   pub tick : ℤ
-  pub read : read_of leaps reading ≡ Ok tick
-  pub walk : walk_between (table_in bytes) (coefficients_in bytes) (named from) (named to) tick ≡ converted_to epoch steps
+  pub read : read_of leaps reading
+      ≡ Ok tick
+  pub walk : walk_between (table_in bytes) (coefficients_in bytes) (named from) (named to) tick
+      ≡ converted_to epoch steps
 
 pub walked : (writes : Purpose) (from to : ℕ) (reading : Reading) (leaps : List ℤ) (bytes : List ℕ) (epoch : Epoch)
     (steps : ℕ) → convert_into writes from to reading leaps bytes ≡ converted_to epoch steps

@@ -30,7 +30,8 @@ pub kept_reached : (scale : Scale) (tick : ℤ) (epoch : Epoch) → kept_in scal
 unfolding kept_in
 kept_reached scale tick epoch e = by (is_valid tick) e
   where
-    by : (valid : Bool) → cond {A = Stepped} valid (Ok (record { scale = scale; tick = tick })) (Err Outside.Range) ≡ Ok epoch
+    by : (valid : Bool) → cond {A = Stepped} valid (Ok (record { scale = scale; tick = tick })) (Err Outside.Range)
+        ≡ Ok epoch
         → (valid ≡ true) × (record { scale = scale; tick = tick } ≡ epoch)
     by true e = (refl, cc)
     by false e = out_of_range e
@@ -46,7 +47,8 @@ pub kept_inside : {A : Type 0} (scale : Scale) (tick : ℤ) → kept_in scale ti
 unfolding kept_in
 kept_inside {A} scale tick e = by (is_valid tick) e
   where
-    by : (valid : Bool) → cond {A = Stepped} valid (Ok (record { scale = scale; tick = tick })) (Err Outside.Range) ≡ (Err Outside.Table) → A
+    by : (valid : Bool) → cond {A = Stepped} valid (Ok (record { scale = scale; tick = tick })) (Err Outside.Range)
+        ≡ (Err Outside.Table) → A
     by true e = let z : ◌≡◌ {A = ℕ} 0 1 = cc in let no : ⊥ = omega arith in absurd no
     by false e = let z : ◌≡◌ {A = ℕ} 0 1 = cc in let no : ⊥ = omega arith in absurd no
 

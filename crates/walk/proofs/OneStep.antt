@@ -79,7 +79,8 @@ module _ (T : Table) (cs : List ℤ) (t : ℤ) where
   unfolding tdb_step
   tdb_reached u e = by (is_inside T t) refl e
     where
-      by : (inside : Bool) → is_inside T t ≡ inside → cond inside (kept_in Tdb (tdb_of T cs t)) (Err Outside.Table) ≡ Ok u
+      by : (inside : Bool) → is_inside T t ≡ inside
+          → cond inside (kept_in Tdb (tdb_of T cs t)) (Err Outside.Table) ≡ Ok u
           → TdbReached u
       by true i e = let k = kept_reached Tdb (tdb_of T cs t) u e in record { inside = i; valid = k.0; is = k.1 }
       by false i e = nowhere e

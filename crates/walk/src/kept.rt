@@ -1,7 +1,6 @@
 // What a path that crosses goes over: a table that has been judged and accepted, with its
 // coefficients. A path that doesn't cross needs none.
-ghost use Rattle.std.specs.Prelude.{◌≡◌, None, Some, []};
-ghost use Rattle.granules.specs.Accepted.{Accepted};
+ghost use Rattle.std.specs.Prelude.{◌≡◌};
 ghost use Rattle.walk.specs.Inner.{Held};
 ghost use Rattle.walk.specs.Walk.{to_tdb, to_tt};
 
@@ -10,8 +9,8 @@ use image::table::Table;
 use linear::steps::{Tdb, Tt};
 use scales::answer::{Epoch, Outside};
 
-// The coefficients are those of the table that is kept. That it was accepted with them keeps every
-// number within 64 bits.
+// The table, if there is one, and its coefficients, else none. That it was accepted with them keeps
+// every number within 64 bits.
 #[derive(Clone, Copy)]
 pub struct Kept<'a> {
     pub table: Option<Table>,
@@ -19,30 +18,7 @@ pub struct Kept<'a> {
     pub ghost held: { Held table coefficients.now },
 }
 
-impl<'a> Kept<'a> {
-    // Nothing, for a path that doesn't cross.
-    pub fn nothing() -> Kept<'a>
-        ensures table { result.table ≡ None }
-        ensures coefficients { result.coefficients.now ≡ [] }
-    {
-        Kept {
-            table: None,
-            coefficients: &[],
-        }
-    }
-
-    // A table that was accepted with its coefficients.
-    pub fn over(table: Table, coefficients: &'a [i64]) -> Kept<'a>
-        requires { Accepted table coefficients.now }
-        ensures table { result.table ≡ Some table }
-        ensures coefficients { result.coefficients.now ≡ coefficients.now }
-    {
-        Kept {
-            table: Some(table),
-            coefficients,
-        }
-    }
-
+impl Kept<'_> {
     // TT to TDB.
     pub fn to_tdb(self, epoch: Epoch) -> Result<Epoch, Outside>
         ensures { result ≡ to_tdb self.entry.table self.entry.coefficients.now epoch.tick }

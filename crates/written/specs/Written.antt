@@ -16,7 +16,8 @@ written_after steps (Err refusal) = Err refusal
 
 -- a conversion's TAI tick, written over the list
 abbrev pub written_by : List ℤ → Answer → UtcAnswer
-written_by leaps (Ok converted) = written_after converted.steps (utc_written leaps converted.epoch.tick)
+written_by leaps (Ok converted) =
+    written_after converted.steps (utc_written leaps converted.epoch.tick)
 written_by leaps (Err refusal) = Err refusal
 
 -- the whole rule of a conversion into UTC: two codes, a reading, a list of leap seconds, table

@@ -44,7 +44,7 @@ pub returns-in-Plain : goal.returns-in-Plain
 returns-in-Plain c =
     has_converted _ _ _ _ _ _ (plain (goal.at.returns-in-Plain c).In-Plain)
     (asked_alone _ _ _ _ (plain (goal.at.returns-in-Plain c).In-Plain) (sound _))
-    (rw (c.nothing.ensures.table, c.nothing.ensures.coefficients) at c.batch_over.ensures)
+    c.batch_over.ensures
 
 pub returns-in-Crossing : goal.returns-in-Crossing
 returns-in-Crossing c =

@@ -3,18 +3,18 @@
 use borrow.Author.Rules.{rules}
 use mathlib.Core.Path.{sym}
 use lib.Seq.{length-take-le}
-use Rattle.blocks.proofs.Accepting.{accepted_of}
+use Rattle.walk.proofs.Holding.{table_held}
 use Rattle.batch.proofs.batch_taken.Goals as goal
 
-pub slice_bounds-over-end : goal.slice_bounds-over-end
-slice_bounds-over-end c = sym (length-take-le _ _ (search rules))
+pub slice_bounds-batch_over-end : goal.slice_bounds-batch_over-end
+slice_bounds-batch_over-end c = sym (length-take-le _ _ (search rules))
 
-pub over-requires : goal.over-requires
-over-requires c = rw (c.how_many-many.ensures, c.taken-coefficients.ensures.front) (accepted_of _ _ c.requires.opened.accepted)
+pub invariant_of-batch_over : goal.invariant_of-batch_over
+invariant_of-batch_over c =
+    record { held = rw (c.how_many-many.ensures, c.taken-coefficients.ensures.front) (table_held _ _ c.requires.opened.accepted) }
 
 pub batch_over-requires : goal.batch_over-requires
 batch_over-requires c = c.requires.long
 
 pub returns : goal.returns
-returns c =
-    rw (c.over.ensures.table, c.over.ensures.coefficients, c.how_many-many.ensures, c.taken-coefficients.ensures.front) at c.batch_over.ensures
+returns c = rw (c.how_many-many.ensures, c.taken-coefficients.ensures.front) at c.batch_over.ensures

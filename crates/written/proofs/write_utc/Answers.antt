@@ -44,7 +44,9 @@ unfolding write_utc_of
 by_written from to reading leaps bytes e w = rw (e, w)
 
 -- what was converted to, and that its tick reads back
-converts : (c : In_ok-converted) → convert_into Utc c.args.from c.args.to c.args.reading c.args.leaps.now c.args.table.now ≡ Ok c.in_ok-converted.converted
+converts : (c : In_ok-converted)
+    → convert_into Utc c.args.from c.args.to c.args.reading c.args.leaps.now c.args.table.now
+    ≡ Ok c.in_ok-converted.converted
 converts c = sym c.convert_into.ensures ∙ c.in_ok-converted.was
 
 pub write-requires : goal.write-requires

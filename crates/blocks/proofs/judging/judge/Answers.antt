@@ -135,7 +135,8 @@ test_stored-requires c =
     }
 
 -- what the tests of the coefficients tell is what the bytes get
-by_granules : (c : After-test_stored) → judged_tested c.table_of-table.result c.test_stored.result ≡ judged c.args.bytes.now
+by_granules : (c : After-test_stored)
+    → judged_tested c.table_of-table.result c.test_stored.result ≡ judged c.args.bytes.now
 unfolding tested_stored
 by_granules c =
     ap (judged_tested c.table_of-table.result) c.test_stored.ensures

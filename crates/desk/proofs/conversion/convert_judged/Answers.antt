@@ -20,15 +20,17 @@ returns-in_err-start c =
     ∙ of_tick _ _ _ _ _ _ _ _ (sym c.asked_of.ensures ∙ c.in_err-start.was) (was (goal.at.returns-in_err-start c).After-ranged-read)
 
 -- what is asked, where it is no refusal
-asks : (c : In_ok-start) → asked_of c.args.purpose c.args.purpose c.args.from c.args.to true true ≡ Ok c.in_ok-start.field-0
+asks : (c : In_ok-start)
+    → asked_of c.args.purpose c.args.purpose c.args.from c.args.to true true ≡ Ok c.in_ok-start.field-0
 asks c = sym c.asked_of.ensures ∙ c.in_ok-start.was
 
 pub returns-in-Plain : goal.returns-in-Plain
 returns-in-Plain c =
-    rw (c.nothing.ensures.table, c.nothing.ensures.coefficients) at c.between.ensures
+    c.between.ensures
     ∙ of_tick _ _ _ _ _ _ _ _ (asks (goal.at.returns-in-Plain c).In_ok-start ∙ ap Ok c.in-Plain.is) (was (goal.at.returns-in-Plain c).After-ranged-read)
 
 pub returns-in-Crossing : goal.returns-in-Crossing
 returns-in-Crossing c =
     c.crossed.ensures
-    ∙ of_tick _ _ _ _ _ _ _ _ (asks (goal.at.returns-in-Crossing c).In_ok-start ∙ ap Ok c.in-Crossing.is) (was (goal.at.returns-in-Crossing c).After-ranged-read)
+    ∙ of_tick _ _ _ _ _ _ _ _ (asks (goal.at.returns-in-Crossing c).In_ok-start
+    ∙ ap Ok c.in-Crossing.is) (was (goal.at.returns-in-Crossing c).After-ranged-read)

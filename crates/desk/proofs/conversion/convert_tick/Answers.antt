@@ -8,7 +8,7 @@ use Rattle.desk.proofs.conversion.convert_tick.Goals as goal
 pub returns-in-Plain : goal.returns-in-Plain
 returns-in-Plain c =
     rw c.in-Plain.is
-    (rw (to_z-of_z w64 _ c.ranges.tick, c.nothing.ensures.table, c.nothing.ensures.coefficients) at c.walk.ensures ∙ between_tick _ _ _ _ _)
+    (rw (to_z-of_z w64 _ c.ranges.tick) at c.walk.ensures ∙ between_tick _ _ _ _ _)
 
 pub returns-in-Crossing : goal.returns-in-Crossing
 returns-in-Crossing c = rw (c.in-Crossing.is, ← to_z-of_z w64 _ c.ranges.tick) c.over_bytes.ensures

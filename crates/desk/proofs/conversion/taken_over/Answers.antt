@@ -3,19 +3,19 @@
 use borrow.Author.Rules.{rules}
 use mathlib.Core.Path.{sym}
 use lib.Seq.{length-take-le}
-use Rattle.blocks.proofs.Accepting.{accepted_of}
+use Rattle.walk.proofs.Holding.{table_held}
 use Rattle.desk.proofs.conversion.taken_over.Goals as goal
 use Rattle.desk.proofs.conversion.taken_over.Goals.{After-how_many-many}
 
 pub slice_bounds-coefficients-end : goal.slice_bounds-coefficients-end
 slice_bounds-coefficients-end c = search rules
 
-pub slice_bounds-over-end : goal.slice_bounds-over-end
-slice_bounds-over-end c = sym (length-take-le _ _ (slice_bounds-coefficients-end (goal.at.slice_bounds-over-end c).After-how_many-many))
+pub slice_bounds-between-end : goal.slice_bounds-between-end
+slice_bounds-between-end c = sym (length-take-le _ _ (slice_bounds-coefficients-end (goal.at.slice_bounds-between-end c).After-how_many-many))
 
-pub over-requires : goal.over-requires
-over-requires c = rw (c.how_many-many.ensures, c.taken-coefficients.ensures.front) (accepted_of _ _ c.requires.accepted)
+pub invariant_of-between : goal.invariant_of-between
+invariant_of-between c =
+    record { held = rw (c.how_many-many.ensures, c.taken-coefficients.ensures.front) (table_held _ _ c.requires.accepted) }
 
 pub returns : goal.returns
-returns c =
-    rw (c.over.ensures.table, c.over.ensures.coefficients, c.how_many-many.ensures, c.taken-coefficients.ensures.front) at c.between.ensures
+returns c = rw (c.how_many-many.ensures, c.taken-coefficients.ensures.front) at c.between.ensures
