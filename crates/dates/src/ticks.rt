@@ -88,7 +88,8 @@ impl Unit {
         }
     }
 
-    // The same for more digits, as many as a reading has.
+    // The same for more digits, as many as a reading has; `pieces_within` is the shorter way that a
+    // part of a day takes.
     fn pieces_over(self, digits: i64, more: u64) -> Span
         requires few { nat_abs digits < 2 ^ 53 }
         requires shift { more ≤ 37 }

@@ -18,6 +18,8 @@ use image::take::stored;
 use scales::refusal::Refusal;
 
 // What the pass keeps: the lowest rank so far with its granule, and the plain sum of the last one.
+// Where none has failed the rank is `NONE`, one more than the last: so the lower is the one that is
+// told, with no case for none.
 #[derive(Clone, Copy, Debug, PartialEq, Eq)]
 pub struct Scan {
     pub rank: usize,

@@ -1,5 +1,6 @@
 // What the exported functions answer. Number 0 is accepted; else number and place are the
-// refusal's, and every other field is 0.
+// refusal's, and every other field is 0. These structs are the C interface: a number and no Result,
+// each field written out.
 ghost use Rattle.std.specs.Prelude.{◌≡◌};
 ghost use Rattle.hosts.specs.Answers.{table_answer, done_answer, refused_answer};
 ghost use Rattle.hosts.specs.Conversions.{converted_answer};

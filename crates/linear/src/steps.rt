@@ -13,6 +13,7 @@ use scales::path::Line;
 use scales::scale::Scale;
 use scales::tick::valid;
 
+// One tuple struct a scale, and no generic one: so no tick of one is taken for a tick of another.
 #[derive(Clone, Copy, Debug, PartialEq, Eq, PartialOrd, Ord)]
 pub struct Gps(pub i64);
 

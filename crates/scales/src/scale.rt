@@ -24,7 +24,8 @@ pub enum Purpose {
     Utc,
 }
 
-// The lowest code, by what it is read for.
+// The lowest code, by what it is read for. It and the highest are two functions, since the page's
+// list of codes has a row for each use and each end.
 fn lowest_code(purpose: Purpose) -> u32
     ensures { result ≡ lowest_code purpose }
 {

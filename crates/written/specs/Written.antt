@@ -2,7 +2,7 @@
 -- tick to be written, before the list's first day, .. a written one after the steps'.
 use Rattle.written.specs.Answers.{UtcAnswer, written_to}
 use Rattle.utc.specs.Answers.{UtcWritten}
-use Rattle.scales.specs.Answers.{Answer, converted_to}
+use Rattle.scales.specs.Answers.{Answer}
 use Rattle.std.specs.Prelude.{Err, Ok, List, ℕ, ℤ}
 use Rattle.scales.specs.declared.scale.Purpose.TheVariants.{Utc}
 use Rattle.utc.specs.Readings.{utc_written}

@@ -1,6 +1,6 @@
 -- `written::write_utc` meets its contract: what is accepted for UTC has a right list and a valid
 -- tick, which is all that writing asks. Assumes nothing.
-use Rattle.std.specs.Prelude.{Ok, Err}
+use Rattle.std.specs.Prelude.{Ok}
 use Rattle.utc.specs.Answers.{UtcWritten}
 use Rattle.scales.specs.Answers.{converted_to}
 use Rattle.scales.proofs.PassedOn.{passed_on}

@@ -1,6 +1,5 @@
 -- `blocks::judging::judge` meets its contract: a test passed at a time, in their order. Assumes
 -- nothing.
-use Rattle.std.specs.Prelude.{Err, Some}
 use Prim.Native.Nat.{ℕ, ◌*◌, zero-le}
 use Rattle.granules.specs.Answers.{tested_stored}
 use Rattle.image.proofs.Bounding.{bounds_told}

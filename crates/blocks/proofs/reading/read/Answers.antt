@@ -1,12 +1,12 @@
 -- `blocks::reading::read` meets its contract: it judges before it stores. Assumes nothing.
-use Rattle.std.specs.Prelude.{Ok, Err}
+use Rattle.std.specs.Prelude.{Ok}
 use Rattle.blocks.proofs.Accepting.{stored_for, accepted_of, accepted_blocks}
 use Rattle.granules.specs.Accepted as table
 use Rattle.blocks.proofs.Taking.{read_table_refused, read_unfit, read_done}
 use Rattle.blocks.specs.Judging.{judged}
 use Rattle.image.proofs.Slots.{room}
 use Rattle.scales.proofs.PassedOn.{passed_on}
-use mathlib.Core.Path.{◌≡◌, sym, ◌∙◌, ap}
+use mathlib.Core.Path.{◌≡◌, sym, ◌∙◌}
 use native.Mathlib.Omega.{arith}
 use Rattle.blocks.proofs.reading.read.Goals as goal
 use Rattle.blocks.proofs.reading.read.Goals.{In_ok-table}

@@ -1,5 +1,4 @@
 -- `blocks::writing::write` meets its contract: it judges before it stores. Assumes nothing.
-use Rattle.std.specs.Prelude.{Ok, Err}
 use Rattle.image.proofs.Bounding.{bounds_told}
 use Rattle.blocks.proofs.Putting.{product, wrote_refused, unfit_list, unfit_buffer, unbounded}
 use Rattle.blocks.proofs.Putting.{by_refused, wrote_done}
@@ -8,7 +7,7 @@ use Rattle.blocks.specs.Judging.{table_from}
 use Rattle.image.specs.declared.table.Table.{Table}
 use mathlib.Core.Bool.{true}
 use Rattle.scales.proofs.PassedOn.{passed_on}
-use mathlib.Core.Path.{◌≡◌, sym, ◌∙◌, ap}
+use mathlib.Core.Path.{◌≡◌, sym, ◌∙◌}
 use mir.Syntax.{w64}
 use mir.Val.{to_z, of_z}
 use mir.ValLaws.{to_z-of_z}
