@@ -24,7 +24,7 @@ impl Opened<'_> {
     pub fn last_place(&self) -> u64
         ensures { result ≡ last_place self.now.table }
     {
-        u64::from(self.table.count) * (self.table.length as u64)
+        self.table.count as u64 * (self.table.length as u64)
     }
 
     // The tick at a place, S + i.
@@ -57,7 +57,7 @@ impl Opened<'_> {
         ensures { result ≡ granule_of self.now.table place }
     {
         let g = place / (self.table.length as u64);
-        g.min(u64::from(self.table.count) - 1)
+        g.min(self.table.count as u64 - 1)
     }
 
     // D in ticks.
