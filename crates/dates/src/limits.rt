@@ -16,8 +16,8 @@ pub fn is_finite(x: f64) -> bool
     x < 1.0 / 0.0 && x > -1.0 / 0.0
 }
 
-// 'date part beyond 5,000,000 days either way'. Days and seconds have a test each: a float can be no
-// const parameter, and with the limit handed over each caller would have to say which it means.
+// 'date part beyond 5,000,000 days either way'. Days and seconds have a test each: a float can be
+// no const parameter, and with the limit handed over each caller would have to say which it means.
 pub fn beyond_days(x: f64) -> bool
     ensures { result ≡ beyond most_days x }
 {

@@ -37,8 +37,8 @@ fn asked_between(start: Scale, end: Scale, fits: bool, right: bool) -> Result<As
 }
 
 // 'Order: 1 (from, then to), 8, ..', then 7: what each code is read for, and whether the lent
-// lengths fit and the list of leap seconds is right. These are two tests with a refusal each, and no
-// kinds of one thing.
+// lengths fit and the list of leap seconds is right. These are two tests with a refusal each, and
+// no kinds of one thing.
 pub fn asked_of(
     reads: Purpose,
     writes: Purpose,

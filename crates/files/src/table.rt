@@ -7,8 +7,8 @@ use std::io::{ErrorKind, Read};
 use std::rt::Files;
 use std::{fs, io};
 
-// Reads until the file ends or the buffer is full. How much comes at once is the system's to say, so
-// that no range counts it.
+// Reads until the file ends or the buffer is full. How much comes at once is the system's to say,
+// so that no range counts it.
 fn read_whole(file: &mut impl Read, bytes: &mut [u8]) -> io::Result<usize>
     ensures { IfOk result (λ size. size ≤ length bytes.new) }
 {

@@ -1,6 +1,6 @@
 -- The whole program: over the table as it was judged and taken, an input that comes in any pieces
 -- is answered as `tickline_of` says. Assumes nothing.
-use Rattle.line.specs.Answers.{Line, numbers_read}
+use Rattle.line.specs.Answers.{Line}
 use Rattle.scales.specs.Answers.{Read}
 use Rattle.blocks.specs.Answers.{Judged, judged_number, judged_count, judged_degree}
 use Rattle.std.specs.Prelude.{Err, Ok, Result}

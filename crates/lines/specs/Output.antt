@@ -1,7 +1,7 @@
 -- What the program prints: '`tickline` reads lines of standard input, `from to tick`, ..; the last
 -- newline may be missing. .. It prints `to tick steps` .. or `refused N`, one line each, no
 -- header.'
-use Rattle.line.specs.Answers.{Line, numbers_read}
+use Rattle.line.specs.Answers.{Line}
 use Rattle.blocks.specs.Answers.{Judged}
 use Rattle.scales.specs.Answers.{Answer}
 use Rattle.std.specs.Prelude.{Err, Bool, false, cond, ◌||◌, List, [], ◌∷◌, ◌++◌, ℕ, suc, eqb, ltb}

@@ -26,8 +26,8 @@ fn room() -> [i64; MOST_COEFFICIENTS]
     [0i64; MOST_COEFFICIENTS]
 }
 
-// The coefficients, at the front of the room, and zeros behind. `how_many` goes beside the room, and
-// not with it in a struct that keeps the fact: of such a struct it can't be stated that any two
+// The coefficients, at the front of the room, and zeros behind. `how_many` goes beside the room,
+// and not with it in a struct that keeps the fact: of such a struct it can't be stated that any two
 // results are equal (`promises.Determined.taken`). The bytes have been judged and accepted.
 pub fn taken(bytes: &[u8], table: Table) -> [i64; MOST_COEFFICIENTS]
     requires { Opened bytes.now table }

@@ -1,6 +1,6 @@
 -- What is printed: '`to tick steps` (`to` is the code asked, in plain decimals, 0 as 0) or `refused
 -- N`, one line each, no header'.
-use Rattle.scales.specs.Answers.{Answer, converted_to}
+use Rattle.scales.specs.Answers.{Answer}
 use Rattle.std.specs.Prelude.{Err, cond, List, [], ◌∷◌, ◌++◌, ℕ, zero, suc, ◌+◌, ◌/◌, ◌%◌, ltb, ℤ}
 use Rattle.std.specs.Prelude.{pos, negsuc, Ok}
 

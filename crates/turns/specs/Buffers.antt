@@ -1,5 +1,5 @@
 -- What the program's functions ask of the buffers that they are lent, and what they leave in them.
-use Rattle.std.specs.Prelude.{◌≡◌, false, List, ℕ, ◌*◌, ◌≤◌, ℤ, length, take}
+use Rattle.std.specs.Prelude.{◌≡◌, false, List, ℕ, ◌*◌, ◌≤◌, length, take}
 use Rattle.printing.specs.Buffers.{longest}
 use Rattle.lines.specs.Output.{has_newline}
 use Rattle.turns.specs.declared.Outcome.{Outcome}

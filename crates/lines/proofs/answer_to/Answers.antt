@@ -3,7 +3,7 @@
 use Rattle.line.specs.Answers.{Line, numbers_read}
 use Rattle.blocks.specs.Answers.{Judged}
 use Rattle.scales.specs.Answers.{Answer}
-use Rattle.std.specs.Prelude.{Err, Ok}
+use Rattle.std.specs.Prelude.{Err}
 use borrow.Author.Rules.{rules}
 use mathlib.Core.Path.{◌≡◌, sym, ◌∙◌, ap}
 use mathlib.Core.List.{List}

@@ -2,7 +2,7 @@
 -- those that are still to be moved are as they were, since none is moved to a place behind its own.
 -- Assumes nothing.
 use mathlib.Core.List.{List}
-use Prim.Native.Nat.{ℕ, ◌+◌, ◌-◌, ◌≤◌}
+use Prim.Native.Nat.{ℕ, ◌+◌, ◌≤◌}
 use lib.ListN.{take, drop}
 use Rattle.printing.specs.Buffers.{TextPut}
 use Rattle.lines.proofs.keep.Given as goal
