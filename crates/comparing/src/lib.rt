@@ -17,7 +17,8 @@ use blocks::judging::judge;
 use image::table::Table;
 use scales::refusal::Refusal;
 
-// A refusal and which table got it, 0 the first and 1 the second, 0 where it is of both.
+// A refusal and which table got it, 0 the first and 1 the second, 0 where it is of both: the number
+// that the C interface hands on.
 #[derive(Clone, Copy, Debug, PartialEq, Eq)]
 pub struct RefusedOf {
     pub refusal: Refusal,

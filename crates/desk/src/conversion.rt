@@ -87,7 +87,8 @@ fn convert_tick(asked: Asked, tick: i64, table: &[u8]) -> Result<Converted, Refu
     }
 }
 
-// A reading that was refused: the table's refusals come before it.
+// A reading that was refused: the table's refusals come before it. With `convert_tick` in one
+// function there would be one call of `over_bytes`, which see.
 fn refuse(asked: Asked, refusal: Refusal, table: &[u8]) -> Result<Converted, Refusal>
     ensures { result ≡ asked_over (Ok asked) (Err refusal) table.now }
 {

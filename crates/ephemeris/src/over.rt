@@ -11,7 +11,8 @@ use linear::steps::{Tdb, Tt};
 use scales::answer::{Epoch, Outside, keep};
 use scales::scale::Scale;
 
-// A tick of TT, over a table.
+// A tick of TT, over a table. It and `OverTdb` are two structs, since a scale has one of its own,
+// and their steps go opposite ways.
 #[derive(Clone, Copy)]
 pub struct OverTt(pub Tt);
 

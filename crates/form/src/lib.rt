@@ -55,8 +55,8 @@ fn zeros_from(bytes: &[u8], at: usize, left: usize) -> usize
     zeros
 }
 
-// What the form of a table's blocks goes by: its count G and degree n. Block 0's form is looked at
-// before its numbers are known, and asks nothing of them.
+// What the form of a table's blocks goes by: its count G and degree n. The form of block 0 is the
+// same for every count and degree, and so it is looked at by 0 and 0, before they are known.
 #[derive(Clone, Copy, PartialEq, Eq, Debug)]
 pub struct Shape {
     pub count: usize,

@@ -17,7 +17,7 @@ pub record Factors (u b : ℤ) : Type 0 where
   pub argument : nat_abs u ≤ scale
   pub bounded : nat_abs b ≤ 2 ^ 60
 
--- the divisor of one is 2^29, or 2^30 in the last
+-- a rounded product is divided by 2^29, and the last by 2^30: the exponents
 abbrev pub IsDivisor : ℕ → Type 0
 IsDivisor bits = (bits ≡ 29) ⊎ (bits ≡ 30)
 

@@ -15,9 +15,9 @@ ghost use Rattle.linear.specs.Drift.{Biased, Little, drift_at};
 
 use pieces::share::{Row, share};
 
-// How far a clock has drifted from another: what it loses or gains over so many of that clock's
-// ticks, as their share by a row. They are counted from `bias` ticks before tick 0, and what is
-// lost or gained up to tick 0 is known, and taken off again.
+// How far a clock has drifted from another: what it loses or gains over so many ticks of the other,
+// as their share by a row. They are counted from `bias` ticks before tick 0, and what is lost or
+// gained up to tick 0 is known, and taken off again.
 #[derive(Clone, Copy, Debug, PartialEq, Eq)]
 pub struct Drift {
     row: Row,
@@ -62,7 +62,7 @@ pub const TCG_GAINS: Drift = Drift {
 };
 
 // What TCB gains over ticks of TDB, likewise, of TDB + 65,500. The bias is 481·E and those 65,500,
-// and over 481·E TCB gains 481·L.
+// over 481·E TCB gains 481·L, and what is known is that less the 65,500 by which it is ahead.
 pub const TCB_GAINS: Drift = Drift {
     row: Row {
         m1: 279_316_814,
@@ -74,8 +74,7 @@ pub const TCB_GAINS: Drift = Drift {
 };
 
 impl Drift {
-    // The ticks since `bias` ticks before tick 0. The callers' tick is valid and their bias a
-    // literal.
+    // The ticks since `bias` ticks before tick 0. The callers' tick is valid.
     fn count(self, tick: i64) -> u64
         requires { Biased tick self.bias }
         ensures { pos result ≡ tick +ℤ pos self.bias }
@@ -83,7 +82,7 @@ impl Drift {
         self.bias.wrapping_add_signed(tick)
     }
 
-    // What is lost or gained up to a tick, less than 10^12 + 10^12 either way.
+    // What is lost or gained up to a tick, at most 2·10^12 either way.
     pub fn up_to(self, tick: i64) -> i64
         requires count { Biased tick self.bias }
         requires little { Little self }

@@ -118,7 +118,8 @@ impl Tcb {
     }
 }
 
-// The step along a line, from an epoch of the scale in which it begins.
+// The step along a line, from an epoch of the scale in which it begins. It and the step back are
+// two matches, since each arm goes from another struct to another.
 pub fn along(line: Line, epoch: Epoch) -> Result<Epoch, Outside>
     ensures { result ≡ line_step (line_row line) epoch.tick }
 {

@@ -39,8 +39,8 @@ fn refused_line(number: u32) -> ArrayString<LONGEST>
     refused
 }
 
-// Puts a text into a buffer at a place, and answers the place after it. `write!` says what it wrote
-// only where it succeeds, and not that it does, so that the bytes are copied.
+// Puts a text into a buffer at a place, and answers the place after it. `write!` tells what it
+// wrote where it succeeds, and nothing tells that it does, so that the bytes are copied.
 fn put_text(out: &mut [u8], at: usize, text: &str) -> usize
     requires { at + length text.now ≤ length out.old }
     ensures { TextPut out.old at text.now out.new result }

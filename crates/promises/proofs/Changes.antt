@@ -2,7 +2,7 @@
 -- rising and complete, that its sums bound the gap of the exact sums, that it is empty exactly
 -- where all granules mean the same; and a refusal writes nothing and changes nothing kept. Assumes
 -- nothing.
-use Rattle.comparing.specs.Answers.{Compared, refused_of, compared_refused, compared_number}
+use Rattle.comparing.specs.Answers.{Compared, compared_refused, compared_number}
 use Rattle.comparing.specs.Answers.{compared_entries, compared_left}
 use Rattle.std.specs.Prelude.{Ok, Err}
 use borrow.Author.Tests.{eq-eqb, eqb-true, eqb-false, le-leb, leb-true}

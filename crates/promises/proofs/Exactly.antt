@@ -1,7 +1,7 @@
 -- 'each refusal is given exactly when that page says': of conversions and of batches, a number with
 -- its place, and its index, is told exactly where its test is the first of the page's order to
 -- fail; and 0, for accepted, exactly where none does. Assumes nothing.
-use Rattle.entries.specs.Batched.{Batched, refused_at, batched_number, batched_place, batched_index}
+use Rattle.entries.specs.Batched.{Batched, batched_number, batched_place, batched_index}
 use Rattle.entries.specs.Batched.{batched_steps}
 use Rattle.scales.specs.Answers.{Read, Answer, converted_to, answer_number, answer_place}
 use Rattle.scales.specs.Answers.{answer_scale, answer_tick, answer_steps, read_number, read_place}

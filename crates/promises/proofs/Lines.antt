@@ -5,7 +5,7 @@
 use Rattle.line.specs.Answers.{Line, numbers_read, line_number, line_place, line_from, line_to}
 use Rattle.line.specs.Answers.{line_tick}
 use Rattle.blocks.specs.Answers.{Judged}
-use Rattle.scales.specs.Answers.{Answer, converted_to, answer_number, answer_place, answer_tick}
+use Rattle.scales.specs.Answers.{Answer, answer_number, answer_place, answer_tick}
 use Rattle.scales.specs.Answers.{answer_steps}
 use Rattle.std.specs.Prelude.{Err, Ok}
 use borrow.Author.Tests.{le-leb}
@@ -23,7 +23,6 @@ use Rattle.blocks.specs.Judging.{judged}
 use Rattle.opened.specs.Opened.{coefficients_in}
 use Rattle.dates.specs.declared.reading.Reading.TheVariants.{Ticks}
 use Rattle.dates.specs.Readings.{read_of, in_range}
-use Rattle.desk.specs.declared.asked.Asked.TheVariants as Q
 use Rattle.desk.specs.Order.{settled}
 use Rattle.desk.specs.Conversion.{convert_of, convert_read, convert_into}
 use Rattle.desk.specs.Inner.{asked_of}

@@ -1,6 +1,6 @@
 -- Each conversion is answered or refused, never both; a refusal tells one of the page's numbers
 -- with its place, and carries no tick. Assumes nothing.
-use Rattle.scales.specs.Answers.{Answer, converted_to, answer_number, answer_place, answer_tick}
+use Rattle.scales.specs.Answers.{Answer, answer_number, answer_place, answer_tick}
 use Rattle.scales.specs.Answers.{answer_steps, stepped_number, read_number, read_tick}
 use Rattle.scales.specs.declared.answer.Outside.TheVariants as Outside
 use Rattle.std.specs.Prelude.{Err, Ok, Option}

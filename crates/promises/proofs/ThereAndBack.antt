@@ -1,7 +1,7 @@
 -- Demand 3: 'there and back over one step lands within one tick', for conversions over any step:
 -- the law of each is `step_back` of `Steps`. Assumes nothing.
 use Rattle.blocks.specs.Answers.{Judged}
-use Rattle.scales.specs.Answers.{Stepped, Answer, converted_to, answer_number, answer_tick}
+use Rattle.scales.specs.Answers.{Stepped, Answer, answer_number, answer_tick}
 use Rattle.scales.specs.Answers.{answer_steps, stepped_number, read_tick}
 use Rattle.scales.specs.declared.answer.Outside.TheVariants as Outside
 use Rattle.std.specs.Prelude.{Err, Ok}

@@ -1,7 +1,7 @@
 -- What a conversion and a batch tell is what their lists of tests tell, in whatever it is told: the
 -- definitions of `desk` and `batch` beside the page's order. Assumes nothing.
-use Rattle.entries.specs.Batched.{Batched, refused_at}
-use Rattle.scales.specs.Answers.{Read, Stepped, Answer, converted_to, stepped_number, stepped_tick}
+use Rattle.entries.specs.Batched.{Batched}
+use Rattle.scales.specs.Answers.{Read, Stepped, Answer, stepped_number, stepped_tick}
 use Rattle.blocks.specs.Answers.{Judged, judged_refused}
 use Rattle.image.specs.declared.table.Table.{Table}
 use Rattle.scales.specs.declared.answer.Outside.TheVariants as Outside

@@ -20,8 +20,8 @@ pub struct Converted {
     pub steps: u32,
 }
 
-// Where a step comes to that reaches no epoch of the neighbouring scale: refusal 6, 'outside the
-// table', or 4, it left the range. Their place is known to the walk alone.
+// Why a step reaches no epoch of the neighbouring scale: it is 'outside the table', refusal 6, or
+// it left the range, refusal 4. Their place is known to the walk alone.
 #[derive(Clone, Copy, Debug, PartialEq, Eq)]
 pub enum Outside {
     Table,

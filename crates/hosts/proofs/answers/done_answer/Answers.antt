@@ -1,5 +1,4 @@
 -- `hosts::answers::done_answer` meets its contract. Assumes nothing.
-use Rattle.std.specs.Prelude.{Ok, Err}
 use Rattle.hosts.proofs.answers.done_answer.Goals as goal
 
 pub returns-in-Ok : goal.returns-in-Ok

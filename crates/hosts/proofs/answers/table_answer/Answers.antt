@@ -1,5 +1,4 @@
 -- `hosts::answers::table_answer` meets its contract. Assumes nothing.
-use Rattle.std.specs.Prelude.{Ok, Err}
 use mir.Syntax.{w64}
 use mir.ValLaws.{to_z-of_z}
 use borrow.Author.Rules.{rules}

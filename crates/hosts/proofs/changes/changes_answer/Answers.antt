@@ -1,5 +1,4 @@
 -- `hosts::changes::changes_answer` meets its contract. Assumes nothing.
-use Rattle.std.specs.Prelude.{Ok, Err}
 use Rattle.comparing.specs.Answers.{compared_number, compared_place, compared_which}
 use Rattle.comparing.specs.Answers.{compared_entries}
 use Rattle.hosts.proofs.changes.changes_answer.Goals as goal

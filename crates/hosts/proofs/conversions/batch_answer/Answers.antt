@@ -1,5 +1,4 @@
 -- `hosts::conversions::batch_answer` meets its contract. Assumes nothing.
-use Rattle.std.specs.Prelude.{Ok, Err}
 use Rattle.entries.specs.Batched.{batched_number, batched_place, batched_index, batched_steps}
 use Rattle.hosts.proofs.conversions.batch_answer.Goals as goal
 

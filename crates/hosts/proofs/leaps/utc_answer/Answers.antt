@@ -1,5 +1,4 @@
 -- `hosts::leaps::utc_answer` meets its contract. Assumes nothing.
-use Rattle.std.specs.Prelude.{Ok, Err}
 use borrow.Author.Rules.{rules}
 use mir.Syntax.{w64}
 use mir.ValLaws.{to_z-of_z}
