@@ -11,7 +11,7 @@ use desk::asked::{Asked, asked_of};
 use entries::batched::RefusedAt;
 use filling::batch_over;
 use image::table::Table;
-use opened::{how_many, taken};
+use opened::{how_many, room, take};
 use scales::scale::{Purpose, Scale};
 use walk::kept::Kept;
 
@@ -28,7 +28,8 @@ fn batch_taken(
     ensures { FilledTaken from to ticks.now answers.old
         answers.new bytes.now table result }
 {
-    let coefficients = taken(bytes, table);
+    let mut coefficients = room();
+    take(bytes, table, &mut coefficients);
     let many = how_many(table);
     batch_over(
         from,

@@ -7,11 +7,11 @@ use mathlib.Core.List.{List, ◌∷◌}
 use Prim.Native.Nat.{ℕ, ◌*◌, ◌/◌, ◌%◌, ◌≤◌, ◌<◌}
 use native.Mathlib.Nat.{le_of_eq}
 use native.Mathlib.Omega.{arith}
-use borrow.Author.Tests.{eqb-true, eq-eqb, ne_eqb, leb-true, le-leb}
+use borrow.Author.Tests.{eqb-true, eq-eqb, ne_eqb, leb-true, le-leb, le-ltb}
 use lib.Dec.{leb, eqb}
 use lib.ListN.{length}
 use Rattle.std.specs.Option.{is_some}
-use Rattle.numbers.specs.Lowest.{found}
+use Rattle.numbers.specs.Lowest.{lowest, found}
 use Rattle.numbers.specs.Tests.{Test, test, single}
 use Rattle.numbers.proofs.Flags.{both}
 use Rattle.numbers.proofs.Places.{all_pass, found_told, none_found}
@@ -21,11 +21,11 @@ use Rattle.words.specs.Check.{is_checked}
 use Rattle.form.specs.Form.{blocks_of, is_free, fixed_byte, is_formed}
 use Rattle.form.specs.Asked.{Search}
 use Rattle.image.specs.Bounds.{is_bounded}
-use Rattle.image.specs.Image.{granule_stored}
+use Rattle.image.specs.Image.{granule_stored, table_of}
 use Rattle.image.specs.declared.table.Table.{Table}
 use Rattle.granules.specs.Tests.{granule_tests}
 use Rattle.blocks.specs.Answers.{judged_refused}
-use Rattle.blocks.specs.Judging.{judged_by, is_whole, is_formed_in, table_tests}
+use Rattle.blocks.specs.Judging.{judged_by, is_whole, is_formed_in, table_tests, judged}
 
 -- ---- bytes in whole blocks
 pub record Whole (length : ℕ) : Type 0 where
@@ -162,3 +162,17 @@ first_unformed p (Some r) e h = let f = found_told p 1 r e in one_stop p r f.0 f
 pub first_formed : (p : ℕ → Bool) (r : Option ℕ) → r ≡ found p 1 → is_some r ≡ false → p 0 ≡ true
 first_formed p None e h = one_go p _ refl (none_found p 1 e)
 first_formed p (Some r) e h = absurd (cc)
+
+-- ---- refusal 12 of block 0, by the tests alone
+none_told : (p : ℕ → Bool) (n : ℕ) → n ≤ lowest p n → None ≡ found p n
+unfolding found
+none_told p n h = rw (le-ltb (lowest p n) n h) refl
+
+pub unformed_first : (b : List ℕ) → is_whole (length b) ≡ true
+    → length b / 512 ≤ lowest (λ k. is_checked (block b k)) (length b / 512)
+    → lowest (λ k. is_formed 0 0 k (block b k)) 1 < 1 → judged_refused 12 0 ≡ judged b
+unfolding judged
+unformed_first b w k h =
+    let t = table_of b in
+    let checked = none_told (λ k. is_checked (block b k)) (length b / 512) k in
+    refused12_first b t (past11 b t (past10 b t w) checked) (one_stop (λ k. is_formed 0 0 k (block b k)) _ refl h)

@@ -11,7 +11,7 @@ use crate::leaps::asked_over;
 use blocks::judging::judge;
 use dates::reading::{Reading, purpose_of, ranged, tick_of};
 use image::table::Table;
-use opened::{how_many, taken};
+use opened::{how_many, room, take};
 use scales::answer::{Converted, Epoch};
 use scales::path::is_one_scale;
 use scales::refusal::Refusal;
@@ -42,7 +42,8 @@ fn taken_over(
     requires { Opened bytes.now table }
     ensures { result ≡ taken_over from to read bytes.now table }
 {
-    let coefficients = taken(bytes, table);
+    let mut coefficients = room();
+    take(bytes, table, &mut coefficients);
     let many = how_many(table);
     between(
         from,

@@ -15,6 +15,17 @@ use scales::path::{LONGEST_PATH, end_of, next_step};
 use scales::scale::Scale;
 use walk::kept::Kept;
 
+// The first list's ticks into the second. They go one by one, since a copy of them all at once is a
+// name that the archive for C would need from outside.
+fn copy_all(ticks: &[i64], answers: &mut [i64])
+    requires { length answers.old ≡ length ticks.now }
+    ensures { answers.new ≡ ticks.now }
+{
+    for i in 0..ticks.len() {
+        answers[i] = ticks[i];
+    }
+}
+
 // Writes every entry's tick. All have been tried and accepted, so that the path is walked once,
 // each step over the whole list.
 fn write_all(from: Scale, to: Scale, ticks: &[i64], answers: &mut [i64], kept: Kept<'_>)
@@ -22,7 +33,7 @@ fn write_all(from: Scale, to: Scale, ticks: &[i64], answers: &mut [i64], kept: K
     ensures { answers.new
         ≡ ticks_by (entry_of from to kept.entry.table kept.entry.coefficients.now) ticks.now }
 {
-    answers.copy_from_slice(ticks);
+    copy_all(ticks, answers);
     let mut scale = from;
     for done in 0..LONGEST_PATH {
         let Some(step) = next_step(scale, to) else {

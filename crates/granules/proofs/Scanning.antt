@@ -2,7 +2,7 @@
 -- has told what the list of tests tells. `granule g` are the coefficients of granule g. Assumes
 -- nothing.
 use Rattle.granules.specs.Answers.{Tested, tested_refused, tested_by}
-use Rattle.std.specs.Prelude.{None, Ok, Some}
+use Rattle.std.specs.Prelude.{Ok, Option, None, Some}
 use mathlib.Core.Path.{◌≡◌, refl, sym, ◌∙◌, ap, subst}
 use mathlib.Core.Bool.{Bool, true, false, cond, ◌||◌}
 use mathlib.Core.List.{List, [], ◌∷◌}
@@ -149,23 +149,36 @@ module _ (granule : ℕ → List ℤ) (H g : ℕ) (scan : Scan) (sc : Scanned gr
             plain = kept;
           })
 
-  pub scanned_next : (s : Scan) → scan_next scan g c H ≡ Some s → Scanned granule H (g + 1) s
+  next_by_own : (s : Scan) → scan_next scan g c H ≡ Some s → Scanned granule H (g + 1) s
   unfolding scan_next
-  scanned_next s e =
+  next_by_own s e =
       let w = went_on own _ s e in
       subst (λ (z : Scan). Scanned granule H (g + 1) z) w.1 (after w.0)
 
   -- a granule that fails the first test ends the pass
-  pub scanned_lowest : (t : Table) → H ≡ nat_abs t.length → g < t.count → scan_next scan g c H ≡ None
+  lowest_by_own : (t : Table) → H ≡ nat_abs t.length → g < t.count → scan_next scan g c H ≡ None
       → (answer : Tested) → RankTold 0 g answer → answer ≡ tested_by (granule_tests t granule)
   unfolding scan_next
-  scanned_lowest t same h e answer a =
+  lowest_by_own t same h e answer a =
       let z = was_lowest own _ e in
       let f = own_first granule H g scan.plain.0 sc.plain z in
       a.is H granule
       ∙ by_rank tested_refused (Ok tt) (granule_rules H granule) t.count 0 g
       (best_first _ none_rank g scan.rank scan.place sc.best sc.some f t.count h)
       ∙ ap (λ (l : ℕ). tested_by (over t.count (granule_rules l granule))) same
+
+-- what is looked at may be coefficients that the tests do not tell from the granule's own
+module _ (granule : ℕ → List ℤ) (H g : ℕ) (scan : Scan) (c : List ℤ) (here : Alike c (granule g))
+    (sc : Scanned granule H g scan) where
+  by_alike : {n : Option Scan} → scan_next scan g c H ≡ n → scan_next scan g (granule g) H ≡ n
+  by_alike e = sym (scan_alike scan g H here) ∙ e
+
+  pub scanned_next : (s : Scan) → scan_next scan g c H ≡ Some s → Scanned granule H (g + 1) s
+  scanned_next s e = next_by_own granule H g scan sc s (by_alike e)
+
+  pub scanned_lowest : (t : Table) → H ≡ nat_abs t.length → g < t.count → scan_next scan g c H ≡ None
+      → (answer : Tested) → RankTold 0 g answer → answer ≡ tested_by (granule_tests t granule)
+  scanned_lowest t same h e answer a = lowest_by_own granule H g scan sc t same h (by_alike e) answer a
 
 -- the end of the pass
 pub scanned_all : (granule : ℕ → List ℤ) (t : Table) (H : ℕ) (scan : Scan) → H ≡ nat_abs t.length

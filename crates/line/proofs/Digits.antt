@@ -63,7 +63,7 @@ unfolding all_digits value_from
 sized_all s = ((s.digits_left, omega (arith, s.value, s.small)), sym s.value)
 
 -- ---- which digits are no number's
-none_spoilt : (negative : Bool) (text : List ℕ) → all_digits text ≡ false → digits_number negative text ≡ none
+pub none_spoilt : (negative : Bool) (text : List ℕ) → all_digits text ≡ false → digits_number negative text ≡ none
 unfolding digits_number
 none_spoilt negative text e = simp (e, and-false)
 

@@ -21,7 +21,7 @@ pub positive_fits : (n : ℕ) → n < 2 ^ 63 → fitting (signed false n) ≡ so
 unfolding fitting fits_signed
 positive_fits n h = rw (lt-ltb n (2 ^ 63) h)
 
-positive_far : (n : ℕ) → 2 ^ 63 ≤ n → fitting (signed false n) ≡ none
+pub positive_far : (n : ℕ) → 2 ^ 63 ≤ n → fitting (signed false n) ≡ none
 unfolding fitting fits_signed
 positive_far n h = rw (le-ltb n (2 ^ 63) h)
 
@@ -29,11 +29,11 @@ pub negative_fits : (n : ℕ) → n < 2 ^ 63 → fitting (signed true (suc n)) �
 unfolding fitting fits_signed
 negative_fits n h = rw (le-leb n 9223372036854775807 (omega arith))
 
-negative_zero : fitting (signed true 0) ≡ some (pos 0)
+pub negative_zero : fitting (signed true 0) ≡ some (pos 0)
 unfolding fitting fits_signed
 negative_zero = refl
 
-negative_far : (n : ℕ) → 2 ^ 63 < n → fitting (signed true n) ≡ none
+pub negative_far : (n : ℕ) → 2 ^ 63 < n → fitting (signed true n) ≡ none
 unfolding fitting fits_signed
 negative_far zero h = let z : ⊥ = omega arith in absurd z
 negative_far (suc n) h = rw (lt-leb n 9223372036854775807 (omega arith))

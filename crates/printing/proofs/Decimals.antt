@@ -55,10 +55,10 @@ module _ (P : ℕ → Type 0) (one : (n : ℕ) → n < 10 → P n) (more : (n : 
   by_digits n = up_to (suc n) n (omega arith)
 
 -- ---- length
-length_one : (n : ℕ) → n < 10 → length (decimal n) ≡ 1
+pub length_one : (n : ℕ) → n < 10 → length (decimal n) ≡ 1
 length_one n h = rw (decimal_one n h)
 
-length_more : (n : ℕ) → 10 ≤ n → length (decimal n) ≡ length (decimal (n / 10)) + 1
+pub length_more : (n : ℕ) → 10 ≤ n → length (decimal n) ≡ length (decimal (n / 10)) + 1
 length_more n h = rw (decimal_more n h) (length-append (decimal (n / 10)) ((48 + n % 10) ∷ []))
 
 pub some_length : (n : ℕ) → 1 ≤ length (decimal n)

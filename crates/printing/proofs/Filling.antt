@@ -15,7 +15,7 @@ unfolding with_text
 length_with out at text h = simp (length-append, length-take, length-drop) (omega arith)
 
 -- one byte
-with_byte : (out : List ℕ) (at byte : ℕ) → at < length out → set out at byte ≡ with_text out at (byte ∷ [])
+pub with_byte : (out : List ℕ) (at byte : ℕ) → at < length out → set out at byte ≡ with_text out at (byte ∷ [])
 unfolding with_text
 with_byte out at byte h =
     set_split out at byte h ∙ sym (append_snoc (take at out) byte (drop (at + 1) out) ∙ ap (λ (n : ℕ). take at out ++ byte ∷ drop n out) (add-one at))

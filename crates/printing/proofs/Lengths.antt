@@ -16,7 +16,7 @@ unfolding integer_text
 integer_length (pos n) f = let h = f.sfits in omega (arith, few_digits 18 n (omega arith))
 integer_length (negsuc n) f = let h = f.sfits in omega (arith, few_digits 18 (suc n) (omega arith))
 
-small_length : (n : ℕ) → n < 2 ^ 32 → length (decimal n) ≤ 10
+pub small_length : (n : ℕ) → n < 2 ^ 32 → length (decimal n) ≤ 10
 small_length n h = few_digits 9 n (omega arith)
 
 pub answer_length : (to tick : ℤ) (steps : ℕ) → SFits w64 to → SFits w64 tick → steps < 2 ^ 32

@@ -28,17 +28,6 @@ fn answer_line(to: i64, tick: i64, steps: u32) -> ArrayString<LONGEST>
     line
 }
 
-// `refused N` and a newline.
-fn refused_line(number: u32) -> ArrayString<LONGEST>
-    ensures { result.bytes ≡ refused_line number }
-{
-    let mut refused = ArrayString::new();
-    refused.push_str("refused ");
-    refused.push_str(Buffer::new().format(number));
-    refused.push_str("\n");
-    refused
-}
-
 // Puts a text into a buffer at a place, and answers the place after it. `write!` tells what it
 // wrote where it succeeds, and nothing tells that it does, so that the bytes are copied.
 fn put_text(out: &mut [u8], at: usize, text: &str) -> usize
@@ -48,6 +37,18 @@ fn put_text(out: &mut [u8], at: usize, text: &str) -> usize
     let end = at + text.len();
     out[at..end].copy_from_slice(text.as_bytes());
     end
+}
+
+// Puts `refused N` and a newline, each part where the one before it ends: a line that is refused is
+// mostly this, and built first it would be copied once more. The callers keep room for the longest
+// line.
+fn put_refused(out: &mut [u8], at: usize, number: u32) -> usize
+    requires { at + longest ≤ length out.old }
+    ensures { TextPut out.old at (refused_line number) out.new result }
+{
+    let word = put_text(out, at, "refused ");
+    let digits = put_text(out, word, Buffer::new().format(number));
+    put_text(out, digits, "\n")
 }
 
 // Puts the line of an answer to a conversion into the scale of the code `to`, as the line read had
@@ -65,6 +66,6 @@ pub fn write_line(out: &mut [u8], at: usize, to: i64, answer: Result<Converted, 
                 &answer_line(to, converted.epoch.tick, converted.steps),
             )
         }
-        Err(refusal) => put_text(out, at, &refused_line(refusal.number)),
+        Err(refusal) => put_refused(out, at, refusal.number),
     }
 }

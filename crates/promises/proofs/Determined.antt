@@ -218,6 +218,12 @@ write = both (λ κs a r s p. (p.answer, p.buffer))
 pub how_many_lem : One opened.how_many.Reads.Learnt
 how_many_lem = equation
 
+pub room : One opened.room.Reads.Learnt
+room = equation
+
+pub take : Determines opened.take.Reads.Learnt (λ κs r s. s.1.1.0.now)
+take = told (λ κs a r s p. sym (take-append-drop (how_many a.1.0) s.1.1.0.now) ∙ ap₂ ◌++◌ p.front p.behind)
+
 pub taken : One opened.taken.Reads.Learnt
 taken = told (λ κs a r s p. sym (take-append-drop (how_many a.1.0) r) ∙ ap₂ ◌++◌ p.front p.behind)
 
@@ -275,6 +281,9 @@ pub write_utc : One written.write_utc.Reads.Learnt
 write_utc = equation
 
 -- ---- entries
+pub refused_at : One entries.batched.RefusedAtFromRefusal.from.Reads.Learnt
+refused_at = equation
+
 pub tried : One entries.trying.tried.Reads.Learnt
 tried = equation
 

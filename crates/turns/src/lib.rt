@@ -9,7 +9,7 @@ use blocks::judging::judge;
 use files::standard::{print, read_input};
 use lines::over::Over;
 use lines::{answer_last, feed};
-use opened::{how_many, taken};
+use opened::{how_many, room, take};
 
 // What a turn leaves: how many bytes of an unfinished line, and its number; or that the input has
 // ended, or that nothing more can be printed.
@@ -77,7 +77,8 @@ pub fn run_over(rt: &(impl Input + Print + Eprint), bytes: &[u8], text: &mut [u8
     let judged = judge(bytes);
     match judged {
         Ok(table) => {
-            let room = taken(bytes, table);
+            let mut room = room();
+            take(bytes, table, &mut room);
             let many = how_many(table);
             let coefficients = &room[..many];
             run(

@@ -11,10 +11,10 @@ slice_bounds-batch_over-end c = sym (length-take-le _ _ (search rules))
 
 pub invariant_of-batch_over : goal.invariant_of-batch_over
 invariant_of-batch_over c =
-    record { held = rw (c.how_many-many.ensures, c.taken-coefficients.ensures.front) (table_held _ _ c.requires.opened.accepted) }
+    record { held = rw (c.how_many-many.ensures, c.take.ensures.front) (table_held _ _ c.requires.opened.accepted) }
 
 pub batch_over-requires : goal.batch_over-requires
 batch_over-requires c = c.requires.long
 
 pub returns : goal.returns
-returns c = rw (c.how_many-many.ensures, c.taken-coefficients.ensures.front) at c.batch_over.ensures
+returns c = rw (c.how_many-many.ensures, c.take.ensures.front) at c.batch_over.ensures

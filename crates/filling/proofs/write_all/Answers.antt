@@ -3,11 +3,11 @@ use native.Mathlib.Omega.{arith}
 use Rattle.filling.proofs.Writing.{walked_none, walked_more, walked_here, walked_all}
 use Rattle.filling.proofs.write_all.Goals as goal
 
-pub copy_from_slice-requires : goal.copy_from_slice-requires
-copy_from_slice-requires c = omega (arith, c.requires.long)
+pub copy_all-requires : goal.copy_all-requires
+copy_all-requires c = c.requires.long
 
 pub loop-done-init : goal.loop-done-init
-loop-done-init c = rw c.copy_from_slice.ensures.after (walked_none _ _ _ _ _ c.requires.steps c.requires.accepted)
+loop-done-init c = rw c.copy_all.ensures (walked_none _ _ _ _ _ c.requires.steps c.requires.accepted)
 
 pub shape_of-answers-in_default : goal.shape_of-answers-in_default
 shape_of-answers-in_default c = c.loop-done.invariant.long ∙ sym c.requires.long

@@ -8,6 +8,6 @@ pub invariant_of-run : goal.invariant_of-run
 invariant_of-run g c =
     record {
       lent =
-          rw (c.how_many-many.ensures, c.taken-room.ensures.front)
+          rw (c.how_many-many.ensures, c.take.ensures.front)
           (table_lent _ _ (sym c.judge-judged.ensures ∙ c.in-Ok.is));
     }

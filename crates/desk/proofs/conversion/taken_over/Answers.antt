@@ -15,7 +15,7 @@ slice_bounds-between-end c = sym (length-take-le _ _ (slice_bounds-coefficients-
 
 pub invariant_of-between : goal.invariant_of-between
 invariant_of-between c =
-    record { held = rw (c.how_many-many.ensures, c.taken-coefficients.ensures.front) (table_held _ _ c.requires.accepted) }
+    record { held = rw (c.how_many-many.ensures, c.take.ensures.front) (table_held _ _ c.requires.accepted) }
 
 pub returns : goal.returns
-returns c = rw (c.how_many-many.ensures, c.taken-coefficients.ensures.front) at c.between.ensures
+returns c = rw (c.how_many-many.ensures, c.take.ensures.front) at c.between.ensures

@@ -20,6 +20,6 @@ pub returns-in-Err : goal.returns-in-Err
 returns-in-Err c =
     rw c.in-Err.is
     (record {
-      text = rw (← c.refused_line.ensures, ← c.deref-in-Err.ensures.0) c.put_text-in-Err.ensures;
+      text = c.put_refused.ensures;
       short = refused_longest _ (search rules);
     })
